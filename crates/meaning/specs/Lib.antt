@@ -1,0 +1,10 @@
+pub mod Ranges
+pub mod Wire
+pub mod Runs
+pub mod Interference
+pub mod Arrivals
+pub mod Response
+pub mod Refusals
+pub mod Desks
+pub mod Calls
+pub mod Bytes
