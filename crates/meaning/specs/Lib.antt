@@ -8,3 +8,4 @@ pub mod Refusals
 pub mod Desks
 pub mod Calls
 pub mod Bytes
+pub mod Promises
