@@ -1,3 +1,4 @@
 pub mod Sums
 pub mod Circle
 pub mod Lists
+pub mod Leasts

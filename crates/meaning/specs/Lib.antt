@@ -9,3 +9,4 @@ pub mod Desks
 pub mod Calls
 pub mod Bytes
 pub mod Promises
+pub mod Figures
