@@ -2,3 +2,4 @@ pub mod Sums
 pub mod Circle
 pub mod Lists
 pub mod Leasts
+pub mod Numbers
