@@ -12,6 +12,9 @@ use Rattle.laws.proofs.Sums.{sum-ext, sum-shift}
 pub mod-once : (n x : ℕ) → n ≤ x → x < n + n → x % n ≡ x - n
 mod-once n x h l = mod-eq-sub-mod h ∙ mod-eq-of-lt (omega arith)
 
+pub mod-twice : (n x : ℕ) → n + n ≤ x → x < n + n + n → x % n ≡ x - (n + n)
+mod-twice n x h l = mod-eq-sub-mod (omega arith) ∙ mod-once n (x - n) (omega arith) (omega arith) ∙ omega arith
+
 -- the distance to a cell further on, to one further back, and to the cell itself
 pub dist-up : (n s c : ℕ) → s ≤ c → c < n → (c + (n - s)) % n ≡ c - s
 dist-up n s c h l = mod-once n (c + (n - s)) (omega arith) (omega arith) ∙ omega arith

@@ -3,3 +3,4 @@ pub mod Circle
 pub mod Lists
 pub mod Leasts
 pub mod Numbers
+pub mod Keeping

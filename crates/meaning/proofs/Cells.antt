@@ -9,7 +9,6 @@ use mathlib.Core.List.{
   _∷_,
   _++_,
   List·Memᴰ·head,
-  List·Memᴰ·tail,
   List·Memᴰ·append-cases,
   List·Memᴰ·eq-of-singleton,
   Memᴰ·append-left,
@@ -23,6 +22,7 @@ use lib.Dec.{ltb}
 use borrow.Author.Tests.{ltb-true, lt-ltb, not-true}
 use Rattle.laws.specs.Lists.{any, Mem, RisingBy}
 use Rattle.laws.proofs.Lists.{and-true, any-false, mem-head, mem-none, rising-unique}
+use Rattle.laws.proofs.Keeping.{rising-append}
 use Rattle.laws.proofs.Numbers.{any-below-true}
 use Rattle.meaning.specs.declared.Gate.{Gate}
 use Rattle.meaning.specs.declared.Slot.{Slot}
@@ -124,19 +124,6 @@ row-true b k c e = rw (e, row)
 pub row-false : (b : ℕ → Bool) (k c : ℕ) → b c ≡ false → row b (suc k) c ≡ 0
 unfolding row
 row-false b k c e = rw (e, row)
-
--- ---- lists by rising key
-
--- one list with another behind it, all of whose keys are larger
-pub rising-append : {A : Type 0} (key : A → ℕ) (xs ys : List A) → RisingBy key xs → RisingBy key ys
-    → ((x y : A) → Mem x xs → Mem y ys → key x < key y) → RisingBy key (xs ++ ys)
-rising-append key [] ys rx ry h = ry
-rising-append key (x ∷ xs) ys rx ry h = (
-  λ y m.
-      ⊎-elim (λ (j : Mem y xs). rx .0 y j) (λ (j : Mem y ys). h x y (mem-head x xs) j)
-      (List·Memᴰ·append-cases xs m),
-  rising-append key xs ys (rx .1) ry (λ u v i j. h u v (List·Memᴰ·tail i) j),
-)
 
 -- ---- the runs of a circle
 

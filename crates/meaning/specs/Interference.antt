@@ -1,7 +1,7 @@
 -- Document 01, "Interference": over a circle of n cells and its runs, and then over the gate numbers and the slots.
 use mathlib.Core.Bool.{Bool, true, false, not, cond, _&&_, _||_}
 use mathlib.Core.List.{List, [], _∷_, _++_, foldr}
-use Prim.Native.Nat.{ℕ, suc, _+_, _%_}
+use Prim.Native.Nat.{ℕ, suc, _+_, _*_, _/_, _%_}
 use lib.Dec.{leb, ltb, eqb}
 use Rattle.laws.specs.Lists.{keep, every, total, largest}
 use Rattle.laws.specs.Numbers.{sum}
@@ -68,6 +68,11 @@ stairsOf ps = foldr put [] (keep (uncovered ps) ps)
 unfoldable pub lastTotal : ℕ → List Stair → ℕ → ℕ
 lastTotal z [] u = z
 lastTotal z (x ∷ xs) u = lastTotal (cond (leb (x .far) u) (x .total) z) xs u
+
+-- "V(t) is (t / cycle, whole part) x all blocked cells, plus the total of the last stair whose distance is at most the
+-- remainder."
+unfoldable pub byStairs : ℕ → ℕ → List Stair → ℕ → ℕ
+byStairs n all st t = t / n * all + lastTotal 0 st (t % n)
 
 -- V(t) of the slots
 unfoldable pub interference : Gate → List Slot → ℕ → ℕ

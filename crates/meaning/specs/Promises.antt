@@ -2,7 +2,7 @@
 use mathlib.Core.Path.{_≡_}
 use mathlib.Core.Bool.{Bool, true, cond}
 use mathlib.Core.List.{List, [], _∷_, getLastD}
-use Prim.Native.Nat.{ℕ, _+_, _-_, _*_, _/_, _%_, _≤_, _<_}
+use Prim.Native.Nat.{ℕ, _+_, _-_, _*_, _≤_, _<_}
 use lib.ListN.{length}
 use Rattle.laws.specs.Lists.{Mem, RisingBy}
 use Rattle.laws.specs.Numbers.{sum, Least}
@@ -15,7 +15,7 @@ use Rattle.meaning.specs.declared.Stair.{Stair}
 use Rattle.meaning.specs.Ranges.{horizon, mostSlots, mostStreams, octetLimit, portRanges, streamRanges, inRange}
 use Rattle.meaning.specs.Wire.{wireTime}
 use Rattle.meaning.specs.Runs.{gateOf, blocked, hasFree, runs}
-use Rattle.meaning.specs.Interference.{count, allLen, interferenceOf, interference, lastTotal}
+use Rattle.meaning.specs.Interference.{count, allLen, interferenceOf, byStairs, interference}
 use Rattle.meaning.specs.Arrivals.{mostIn, earliest}
 use Rattle.meaning.specs.Response.{busyLoad, waitLoad}
 use Rattle.meaning.specs.Desks.{Desk, bare, opened}
@@ -57,7 +57,7 @@ pub record Stairway (n : ℕ) (rs : List Run) (st : List Stair) : Type 0 where
   pub few : 1 ≤ length rs → length st ≤ length rs * (length rs - 1) + 1
   pub none : length rs ≡ 0 → st ≡ []
   pub last-is-all : getLastD st (record { far = 0; total = 0 }) .total ≡ allLen rs
-  pub gives : (t : ℕ) → interferenceOf n rs t ≡ t / n * allLen rs + lastTotal 0 st (t % n)
+  pub gives : (t : ℕ) → interferenceOf n rs t ≡ byStairs n (allLen rs) st t
 
 -- ---- slots in a chain
 

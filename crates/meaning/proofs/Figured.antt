@@ -1,0 +1,229 @@
+-- The figures of document 01, by the forms that compute: runs by gaps, V by cycles and a rest, least numbers by iteration.
+-- Assumes nothing.
+use mathlib.Core.Path.{_≡_, refl, sym, ap, _∙_, subst, fun-ext}
+use mathlib.Core.Bool.{Bool, true, false}
+use mathlib.Core.List.{List, [], _∷_, List·Memᴰ·head, foldr}
+use mathlib.Core.Option.{Option, some, Option·getD}
+use Prim.Native.Nat.{ℕ, zero, suc, _+_, _-_, _*_, _/_, _%_, _≤_, _<_}
+use native.Mathlib.Nat.{le-refl}
+use native.Mathlib.Omega.{arith}
+use lib.ListN.{length}
+use lib.Dec.{lit<, lit≤}
+use borrow.Author.Tests.{eq-eqb, le-ltb}
+use Rattle.laws.specs.Lists.{keep, any, every, total, largest, insertBy, find, joined, Mem}
+use Rattle.laws.specs.Numbers.{largestTo, Least, Mono}
+use Rattle.laws.proofs.Lists.{mem-none}
+use Rattle.laws.proofs.Keeping.{in-cons}
+use Rattle.laws.proofs.Leasts.{iter, iter-least}
+use Rattle.meaning.specs.declared.Gate.{Gate}
+use Rattle.meaning.specs.declared.Slot.{Slot}
+use Rattle.meaning.specs.declared.Stream.{Stream}
+use Rattle.meaning.specs.declared.Run.{Run}
+use Rattle.meaning.specs.declared.Refusal.the-variants.{NoFreeCell, Late}
+use Rattle.meaning.specs.Ranges.{horizon, mostSlots, mostStreams, octetLimit, portRanges, slotRanges, streamRanges}
+use Rattle.meaning.specs.Wire.{wireTime, tenOctets, extraOctets}
+use Rattle.meaning.specs.Runs.{gateOf, hasFree, runs}
+use Rattle.meaning.specs.Interference.{
+  interference, interferenceOf, allLen, pairs, pairsFrom, pairsMeeting, covers, same, uncovered, put, stairsOf, stairs
+}
+use Rattle.meaning.specs.Arrivals.{mostIn, earliest}
+use Rattle.meaning.specs.Response.{
+  others, ahead, lowerWire, load, busyLoad, window, waitLoad, response, boundIn, bound
+}
+use Rattle.meaning.specs.Refusals.{Answer, accepted, refused, unless}
+use Rattle.meaning.specs.Desks.{Desk, bare, opened}
+use Rattle.meaning.specs.Calls.{
+  openPort, addSlot, addStream, askRuns, askStairs, askInterference, boundOf, verdict, respond, askResponse
+}
+use Rattle.meaning.specs.Bytes.{
+  octetsOf, tagOf, valueLength, valueOf, fieldLength, fieldOctets, edit, fieldsOf, planOctets, planLength, writePlan
+}
+use Rattle.meaning.specs.Promises.{Chain}
+use Rattle.meaning.specs.Figures.{
+  slot, run, stair, octetsF, portF, slotsF, streamF₁, streamF₂, deskF, desk₄, port₈, stream₈, Figures
+}
+use Rattle.meaning.proofs.Counts.{met}
+use Rattle.meaning.proofs.Cells.{runs-below, no-slots-free}
+use Rattle.meaning.proofs.Chains.{lastEnd, hangEnd}
+use Rattle.meaning.proofs.ChainRuns.{broken, runOf, runAt, chainFrom, chainRuns, chain-runs}
+use Rattle.meaning.proofs.ChainFree.{free-has-run}
+use Rattle.meaning.proofs.Interferences.{interference-law, interference-mono}
+use Rattle.meaning.proofs.Responses.{window-some, bound-some, response-some, busy-mono, wait-mono}
+
+-- ---- the form of V that computes
+
+unfoldable quick : ℕ → List Run → ℕ → ℕ
+quick n rs t = t / n * allLen rs + largest (λ r. met n rs (r .start) (t % n)) rs
+
+quick-is : (g : Gate) (ss : List Slot) (rs : List Run) → runs g ss ≡ rs → (t : ℕ) → interference g ss t ≡ quick (g .cycle) rs t
+unfolding quick interference runs
+quick-is g ss rs e t =
+    interference-law (g .cycle) (runs g ss) t (runs-below (g .cycle) _) ∙ ap (λ (x : List Run). quick (g .cycle) x t) e
+
+interference-grows : (g : Gate) (ss : List Slot) → Mono (interference g ss)
+unfolding interference
+interference-grows g ss = interference-mono (g .cycle) (runs g ss)
+
+-- ---- F's runs, stairs and V
+
+abbrev gateF : Gate
+gateF = record { cycle = 100_000; guard = 1_000; header = 500 }
+
+abbrev runsF : List Run
+runsF = run 9_000 5_500 ∷ run 29_000 4_000 ∷ run 59_000 10_000 ∷ []
+
+are-runsF : runs gateF slotsF ≡ runsF
+unfolding chainRuns chainFrom runAt runOf broken lastEnd hangEnd
+are-runsF = sym (chain-runs gateF slotsF (omega arith))
+
+are-stairsF : stairs gateF slotsF ≡ stair 0 10_000 ∷ stair 30_000 14_000 ∷ stair 50_000 19_500 ∷ []
+unfolding stairs stairsOf pairs pairsFrom pairsMeeting covers same uncovered put keep every
+are-stairsF = ap (λ (rs : List Run). stairsOf (pairs 100_000 rs)) are-runsF
+
+valuesF : (interference gateF slotsF 0 ≡ 10_000)
+    × (interference gateF slotsF 29_999 ≡ 10_000)
+    × (interference gateF slotsF 30_000 ≡ 14_000)
+    × (interference gateF slotsF 99_999 ≡ 19_500)
+    × (interference gateF slotsF 100_000 ≡ 29_500)
+    × (interference gateF slotsF 130_000 ≡ 33_500)
+unfolding quick met allLen total largest
+valuesF = let at = quick-is gateF slotsF runsF are-runsF in (at 0, at 29_999, at 30_000, at 99_999, at 100_000, at 130_000)
+
+-- ---- P4 to P7
+
+abbrev gate₄ : Gate
+gate₄ = record { cycle = 1_000; guard = 100; header = 50 }
+
+runs₄ : runs gate₄ (slot 0 100 ∷ []) ≡ run 900 250 ∷ []
+unfolding chainRuns chainFrom runAt runOf broken lastEnd hangEnd
+runs₄ = sym (chain-runs gate₄ (slot 0 100 ∷ []) (omega arith))
+
+runs₅ : runs gate₄ (slot 0 100 ∷ slot 250 400 ∷ []) ≡ run 900 550 ∷ []
+unfolding chainRuns chainFrom runAt runOf broken lastEnd hangEnd
+runs₅ = sym (chain-runs gate₄ (slot 0 100 ∷ slot 250 400 ∷ []) (omega arith))
+
+free₅ : hasFree gate₄ (slot 0 100 ∷ slot 250 400 ∷ []) ≡ true
+unfolding chainRuns chainFrom runAt runOf broken lastEnd hangEnd
+free₅ = free-has-run gate₄ (slot 0 100) (slot 250 400 ∷ []) (omega arith) .0 (run 900 550, List·Memᴰ·head refl)
+
+full₆ : hasFree gate₄ (slot 0 850 ∷ []) ≡ false
+unfolding chainRuns chainFrom runAt runOf broken lastEnd hangEnd
+full₆ = go (hasFree gate₄ (slot 0 850 ∷ [])) refl
+  where
+    go : (b : Bool) → hasFree gate₄ (slot 0 850 ∷ []) ≡ b → b ≡ false
+    go true e = let (r, m) = free-has-run gate₄ (slot 0 850) [] (omega arith) .1 e in mem-none m
+    go false e = refl
+
+runs₆ : runs gate₄ (slot 0 849 ∷ []) ≡ run 900 999 ∷ []
+unfolding chainRuns chainFrom runAt runOf broken lastEnd hangEnd
+runs₆ = sym (chain-runs gate₄ (slot 0 849 ∷ []) (omega arith))
+
+free₆ : hasFree gate₄ (slot 0 849 ∷ []) ≡ true
+unfolding chainRuns chainFrom runAt runOf broken lastEnd hangEnd
+free₆ = free-has-run gate₄ (slot 0 849) [] (omega arith) .0 (run 900 999, List·Memᴰ·head refl)
+
+values₆ : (interference gate₄ (slot 0 849 ∷ []) 0 ≡ 999) × (interference gate₄ (slot 0 849 ∷ []) 1_000 ≡ 1_998)
+unfolding quick met allLen total largest
+values₆ = let at = quick-is gate₄ (slot 0 849 ∷ []) (run 900 999 ∷ []) runs₆ in (at 0, at 1_000)
+
+no-slots-no-interference : (g : Gate) (t : ℕ) → interference g [] t ≡ 0
+unfolding chainRuns quick allLen total largest
+no-slots-no-interference g t = quick-is g [] [] (sym (chain-runs g [] (omega arith))) t ∙ omega arith
+
+-- ---- P8, at an interference of 0
+
+module _ (id priority deadline : ℕ) where
+  abbrev s₈ : Stream
+  s₈ = stream₈ id priority deadline
+
+  none-late : (j : Stream) → Mem j [] → 0 < j .period
+  none-late j m = mem-none m
+
+  flat : Mono (λ x. 0)
+  flat x y h = le-refl 0
+
+  busy₈ : Least (busyLoad 2 (λ x. 0) 0 [] s₈) 40_000
+  unfolding iter busyLoad load ahead keep total wireTime extraOctets tenOctets mostIn
+  busy₈ = iter-least (busy-mono 2 (λ x. 0) 0 [] s₈ none-late flat (lit< tt)) 10 40_000 refl (lit≤ tt)
+
+  wait₈ : (q w : ℕ) → iter (waitLoad 2 (λ x. 0) 0 [] s₈ q) 2 ≡ w → waitLoad 2 (λ x. 0) 0 [] s₈ q w ≤ w
+      → Least (waitLoad 2 (λ x. 0) 0 [] s₈ q) w
+  wait₈ q w = iter-least (wait-mono 2 (λ x. 0) 0 [] s₈ none-late flat q) 2 w
+
+  window₈ : window 2 (λ x. 0) 0 [] s₈ ≡ some 40_000
+  unfolding horizon
+  window₈ = window-some 2 (λ x. 0) 0 [] s₈ 40_000 .1 (busy₈, lit≤ tt)
+
+  responses₈ : (response 2 (λ x. 0) 0 [] s₈ 40_000 1 ≡ some 10_000)
+      × (response 2 (λ x. 0) 0 [] s₈ 40_000 2 ≡ some 20_000)
+      × (response 2 (λ x. 0) 0 [] s₈ 40_000 3 ≡ some 20_000)
+      × (response 2 (λ x. 0) 0 [] s₈ 40_000 4 ≡ some 10_000)
+  unfolding iter waitLoad load ahead keep total wireTime extraOctets tenOctets mostIn earliest
+  responses₈ = (
+    at 1 0 (lit≤ tt) (lit≤ tt) (wait₈ 1 0 refl (lit≤ tt)),
+    at 2 10_000 (lit≤ tt) (lit≤ tt) (wait₈ 2 10_000 refl (lit≤ tt)),
+    at 3 20_000 (lit≤ tt) (lit≤ tt) (wait₈ 3 20_000 refl (lit≤ tt)),
+    at 4 30_000 (lit≤ tt) (lit≤ tt) (wait₈ 4 30_000 refl (lit≤ tt)),
+  )
+    where
+      at : (q w : ℕ) → 1 ≤ q → q ≤ mostIn s₈ 40_000 → Least (waitLoad 2 (λ x. 0) 0 [] s₈ q) w
+          → response 2 (λ x. 0) 0 [] s₈ 40_000 q ≡ some (w + wireTime 2 117 - earliest s₈ q)
+      at q w lo hi lw = response-some 2 (λ x. 0) 0 [] s₈ none-late 40_000 q w busy₈ lo hi lw
+
+  bound₈ : bound 2 (λ x. 0) 0 [] s₈ ≡ some 20_000
+  unfolding boundIn largestTo mostIn horizon
+  bound₈ =
+      bound-some 2 (λ x. 0) 0 [] s₈ 40_000 busy₈ (lit≤ tt)
+      ∙ rw (responses₈ .0, responses₈ .1, responses₈ .2, responses₈ .3)
+
+  bound-alone : (g : Gate) → boundOf (port₈ g) [] (s₈ ∷ []) s₈ ≡ some 20_000
+  unfolding boundOf gateOf others keep lowerWire largest
+  bound-alone g =
+      rw (eq-eqb id id refl)
+      (subst (λ (v : ℕ → ℕ). bound 2 v 0 [] s₈ ≡ some 20_000) (sym (fun-ext (no-slots-no-interference g))) bound₈)
+
+-- ---- P10
+
+-- a window of one frame
+module _ (rate : ℕ) (v : ℕ → ℕ) (L : ℕ) (rest : List Stream) (i : Stream)
+    (rest-pos : (j : Stream) → Mem j rest → 0 < j .period) (v-mono : Mono v) (own-pos : 0 < i .period) where
+  bound-single : (k b : ℕ) → iter (busyLoad rate v L rest i) k ≡ b → busyLoad rate v L rest i b ≤ b → b ≤ horizon
+      → mostIn i b ≡ 1 → (m w : ℕ) → iter (waitLoad rate v L rest i 1) m ≡ w → waitLoad rate v L rest i 1 w ≤ w
+      → bound rate v L rest i ≡ some (w + wireTime rate (i .octets) - earliest i 1)
+  unfolding boundIn largestTo
+  bound-single k b e h ends one m w f l =
+      let lb = iter-least (busy-mono rate v L rest i rest-pos v-mono own-pos) k b e h in
+      let lw = iter-least (wait-mono rate v L rest i rest-pos v-mono 1) m w f l in
+      bound-some rate v L rest i b lb ends
+      ∙ rw (one, response-some rate v L rest i rest-pos b 1 w lb (lit≤ tt) (omega arith) lw)
+      (ap {B = Option ℕ} some (omega arith))
+
+abbrev quickF : ℕ → ℕ
+quickF = quick 100_000 runsF
+
+VF : interference gateF slotsF ≡ quickF
+VF = fun-ext (quick-is gateF slotsF runsF are-runsF)
+
+quickF-grows : Mono quickF
+quickF-grows = rw VF at (interference-grows gateF slotsF)
+
+long : (i : Stream) → 0 < i .period → (j : Stream) → Mem j (i ∷ []) → 0 < j .period
+long i h j m = in-cons m (λ e. subst (λ (k : Stream). 0 < k .period) (sym e) h) (λ k. mem-none k)
+
+boundF₁ : boundOf portF slotsF (streamF₁ ∷ streamF₂ ∷ []) streamF₁ ≡ some 44_000
+unfolding
+  boundOf gateOf others ahead keep lowerWire largest busyLoad waitLoad load total mostIn earliest wireTime extraOctets tenOctets iter quick
+  met allLen horizon
+boundF₁ =
+    rw VF
+    (bound-single 2 quickF 20_000 (streamF₂ ∷ []) streamF₁ (long streamF₂ (lit< tt)) quickF-grows (lit< tt) 8 44_000 refl
+    (lit≤ tt) (lit≤ tt) refl 8 34_000 refl (lit≤ tt))
+
+boundF₂ : boundOf portF slotsF (streamF₁ ∷ streamF₂ ∷ []) streamF₂ ≡ some 44_000
+unfolding
+  boundOf gateOf others ahead keep lowerWire largest busyLoad waitLoad load total mostIn earliest wireTime extraOctets tenOctets iter quick
+  met allLen horizon
+boundF₂ =
+    rw VF
+    (bound-single 2 quickF 0 (streamF₁ ∷ []) streamF₂ (long streamF₁ (lit< tt)) quickF-grows (lit< tt) 8 44_000 refl
+    (lit≤ tt) (lit≤ tt) refl 8 24_000 refl (lit≤ tt))
