@@ -1,6 +1,7 @@
 pub mod Sums
 pub mod Circle
 pub mod Lists
-pub mod Leasts
-pub mod Numbers
 pub mod Keeping
+pub mod Inserting
+pub mod Numbers
+pub mod Leasts

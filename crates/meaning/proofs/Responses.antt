@@ -2,8 +2,7 @@
 -- Assumes nothing.
 use mathlib.Core.Path.{_≡_, refl, sym, ap, _∙_}
 use mathlib.Core.Logic.{_↔_, _⊎_, inl, inr, ⊎-elim, by-cases, Iff·trans}
-use mathlib.Core.Bool.{Bool, true, false, cond}
-use mathlib.Core.List.{List, [], _∷_, List·Memᴰ·head, List·Memᴰ·tail, List·Memᴰ·cases-cons}
+use mathlib.Core.List.{List}
 use mathlib.Core.Option.{Option, none, some, Option·map, Option·getD, map-eq-none-iff, map-eq-some-iff}
 use Prim.Native.Nat.{ℕ, _+_, _-_, _*_, _≤_, _<_}
 use native.Mathlib.Nat.{le-antisymm, mul-le-mul-right}
@@ -12,6 +11,7 @@ use native.Mathlib.Omega.{arith}
 use Rattle.laws.specs.Lists.{keep, Mem}
 use Rattle.laws.specs.Numbers.{largestTo, Least, Mono}
 use Rattle.laws.proofs.Lists.{total-le}
+use Rattle.laws.proofs.Keeping.{keep-mem}
 use Rattle.laws.proofs.Leasts.{
   least-unique,
   least-some,
@@ -38,17 +38,6 @@ use Rattle.meaning.specs.Response.{
 }
 use Rattle.meaning.specs.Promises.{IsBound}
 use Rattle.meaning.proofs.Arrivals.{counted, most-grows, most-one}
-
--- what is kept of a list stands in it
-keep-among : {A : Type 0} (p : A → Bool) (x : A) (xs : List A) → Mem x (keep p xs) → Mem x xs
-unfolding keep
-keep-among p x [] m = m
-keep-among p x (y ∷ ys) m = kept (p y) (keep-among p x ys) m
-  where
-    kept : (b : Bool) → (Mem x (keep p ys) → Mem x ys) → Mem x (cond b (y ∷ keep p ys) (keep p ys)) → Mem x (y ∷ ys)
-    kept true ih m =
-        ⊎-elim (λ e. List·Memᴰ·head e) (λ k. List·Memᴰ·tail (ih k)) (List·Memᴰ·cases-cons m)
-    kept false ih m = List·Memᴰ·tail (ih m)
 
 -- a longer stretch holds no less load
 pub load-mono : (rate : ℕ) (js : List Stream) → ((j : Stream) → Mem j js → 0 < j .period) → Mono (load rate js)
@@ -105,7 +94,7 @@ module _ (rate : ℕ) (v : ℕ → ℕ) (L : ℕ) (rest : List Stream) (i : Stre
   module _ (rest-pos : (j : Stream) → Mem j rest → 0 < j .period) where
     other-mono : Mono (load rate (ahead i rest))
     unfolding ahead
-    other-mono = load-mono rate _ (λ j m. rest-pos j (keep-among _ j rest m))
+    other-mono = load-mono rate _ (λ j m. rest-pos j (keep-mem _ rest j .0 m .0))
 
     -- b - C closes the wait of each frame of the window
     pub wait-room : (b q : ℕ) → Least busy b → 1 ≤ q → q ≤ mostIn i b → (C ≤ b) × (waits q (b - C) ≤ b - C)
