@@ -3,5 +3,6 @@ pub mod Circle
 pub mod Lists
 pub mod Keeping
 pub mod Inserting
+pub mod Joining
 pub mod Numbers
 pub mod Leasts

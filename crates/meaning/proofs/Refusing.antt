@@ -1,7 +1,7 @@
 -- What a row of checks answers: a refusal where its check is the first that fails, and acceptance where none fails.
 -- Assumes nothing.
 use mathlib.Core.Path.{_≡_, refl, sym, ap, _∙_}
-use mathlib.Core.Logic.{_↔_, _⊎_, inl, inr, ⊎-elim, Iff·rfl}
+use mathlib.Core.Logic.{_↔_, _⊎_, inl, inr, ⊎-elim, Iff·rfl, _≢_}
 use mathlib.Core.Bool.{Bool, true, false, not, cond}
 use mathlib.Core.List.{List, [], _∷_, map, List·Memᴰ·head, List·Memᴰ·tail}
 use Prim.Native.Nat.{ℕ, _≤_, _<_}
@@ -12,7 +12,10 @@ use borrow.Author.Tests.{
   leb-false,
   ltb-true,
   ltb-false,
+  eqb-true,
   eqb-false,
+  eq-eqb,
+  ne-eqb,
   le-leb,
   lt-leb,
   lt-ltb,
@@ -48,6 +51,13 @@ tells-leb m n = record { where-true = (leb-true m n, le-leb m n); where-false = 
 
 pub tells-ltb : (m n : ℕ) → Tells (ltb m n) (m < n) (n ≤ m)
 tells-ltb m n = record { where-true = (ltb-true m n, lt-ltb m n); where-false = (ltb-false m n, le-ltb m n) }
+
+pub tells-other : (m n : ℕ) → Tells (not (eqb m n)) (m ≢ n) (m ≡ n)
+tells-other m n =
+    record {
+      where-true = (λ e. eqb-false m n (not-true _ e), λ h. ap not (ne-eqb m n h));
+      where-false = (λ e. eqb-true m n (not-false _ e), λ h. ap not (eq-eqb m n h));
+    }
 
 -- ---- answers told apart
 
