@@ -1,9 +1,10 @@
 -- Places on a circle of n cells: cell b lies (b + (n - a)) % n cells after cell a.
 -- Assumes nothing.
-use mathlib.Core.Path.{_≡_, refl, sym, ap, _∙_}
-use mathlib.Core.Logic.{_↔_, by-cases}
+use mathlib.Core.Path.{_≡_, sym, ap, _∙_}
+use mathlib.Core.Logic.{_↔_, _⊎_, inl, inr, ⊎-elim, by-cases}
 use Prim.Native.Nat.{ℕ, zero, suc, _+_, _-_, _*_, _/_, _%_, _≤_, _<_}
-use native.Mathlib.Nat.{zero-add, add-zero, add-suc, suc-add, mod-eq-of-lt, mod-eq-sub-mod, mod-self, add-mod-right, div-add-mod'}
+use native.Mathlib.Nat.{zero-add, add-zero, add-suc, suc-add, mod-eq-of-lt, mod-eq-sub-mod, mod-self, add-mod-right}
+use native.Mathlib.Nat.{div-add-mod', mod-lt}
 use native.Mathlib.Decide.{decLe, decLt}
 use native.Mathlib.Omega.{arith}
 use Rattle.laws.specs.Numbers.{sum}
@@ -27,25 +28,32 @@ dist-self n s h = ap (λ (x : ℕ). x % n) (omega arith) ∙ mod-self n
 
 -- the k-th cell after s is c exactly where k is the distance
 pub at-dist : (n s c k : ℕ) → s < n → c < n → k < n → ((s + k) % n ≡ c) ↔ (k ≡ (c + (n - s)) % n)
-at-dist n s c k hs hc hk = by-cases (decLe s c) up down
+at-dist n s c k hs hc hk = by-cases (decLt (s + k) n) near far
   where
-    low : s + k < n → (s + k) % n ≡ s + k
-    low h = mod-eq-of-lt h
+    d : ℕ
+    d = (c + (n - s)) % n
 
-    high : n ≤ s + k → (s + k) % n ≡ s + k - n
-    high h = mod-once n (s + k) h (omega arith)
+    distance : (s ≤ c) ⊎ (c < s) → (s + d ≡ c) ⊎ (s + d ≡ c + n)
+    distance (inl h) = inl (omega (arith, dist-up n s c h hc))
+    distance (inr h) = inr (omega (arith, dist-down n s c h hs))
 
-    both : (d : ℕ) → (c + (n - s)) % n ≡ d → ((s ≤ c) → d ≡ c - s) → (¬ (s ≤ c) → d ≡ c + (n - s)) → ((s + k) % n ≡ c) ↔ (k ≡ (c + (n - s)) % n)
-    both d e f g =
-        by-cases (decLe s c)
-        (λ h. by-cases (decLt (s + k) n) (λ l. (λ q. omega (arith, low l, f h), λ q. omega (arith, low l, f h))) (λ l. (λ q. omega (arith, high (omega arith), f h), λ q. omega (arith, high (omega arith), f h))))
-        (λ h. by-cases (decLt (s + k) n) (λ l. (λ q. omega (arith, low l, g h), λ q. omega (arith, low l, g h))) (λ l. (λ q. omega (arith, high (omega arith), g h), λ q. omega (arith, high (omega arith), g h))))
+    there : (s + d ≡ c) ⊎ (s + d ≡ c + n)
+    there = by-cases (decLe s c) (λ h. distance (inl h)) (λ h. distance (inr (omega arith)))
 
-    up : s ≤ c → ((s + k) % n ≡ c) ↔ (k ≡ (c + (n - s)) % n)
-    up h = both (c - s) (dist-up n s c h hc) (λ l. refl) (λ l. absurd (l h))
+    less : d < n
+    less = mod-lt (c + (n - s)) (omega arith)
 
-    down : ¬ (s ≤ c) → ((s + k) % n ≡ c) ↔ (k ≡ (c + (n - s)) % n)
-    down h = both (c + (n - s)) (dist-down n s c (omega arith) hs) (λ l. absurd (h l)) (λ l. refl)
+    near : s + k < n → ((s + k) % n ≡ c) ↔ (k ≡ d)
+    near h =
+        let e = mod-eq-of-lt h in
+        ⊎-elim (λ (q : s + d ≡ c). (λ f. omega arith, λ f. omega arith))
+        (λ (q : s + d ≡ c + n). (λ f. omega (arith, less), λ f. omega (arith, less))) there
+
+    far : ¬ (s + k < n) → ((s + k) % n ≡ c) ↔ (k ≡ d)
+    far h =
+        let e = mod-once n (s + k) (omega arith) (omega arith) in
+        ⊎-elim (λ (q : s + d ≡ c). (λ f. omega (arith, less), λ f. omega (arith, less)))
+        (λ (q : s + d ≡ c + n). (λ f. omega arith, λ f. omega arith)) there
 
 -- a whole round from any cell
 pub sum-round : (n a : ℕ) (g : ℕ → ℕ) → sum n (λ k. g ((a + k) % n)) ≡ sum n g

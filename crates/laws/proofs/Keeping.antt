@@ -1,27 +1,15 @@
 -- Lists: where a member stands, what is kept, folded and joined, lists that rise, and their last.
 -- Assumes nothing.
-use mathlib.Core.Path.{_≡_, refl, sym, ap, _∙_, subst}
+use mathlib.Core.Path.{_≡_, refl, sym, ap, _∙_}
 use mathlib.Core.Logic.{_↔_, _⊎_, inl, inr, ⊎-elim, by-cases}
 use mathlib.Core.Bool.{Bool, true, false, cond, false≢true}
-use mathlib.Core.List.{
-  List,
-  [],
-  _∷_,
-  _++_,
-  foldr,
-  getLastD,
-  List·Memᴰ·head,
-  List·Memᴰ·tail,
-  List·Memᴰ·cases-cons,
-  Memᴰ·append-left,
-  Memᴰ·append-right,
-  List·Memᴰ·append-cases,
-}
+use mathlib.Core.List.{List, [], _∷_, _++_, foldr, getLastD, List·Memᴰ·head, List·Memᴰ·tail, List·Memᴰ·cases-cons}
+use mathlib.Core.List.{Memᴰ·append-left, Memᴰ·append-right, List·Memᴰ·append-cases}
 use Prim.Native.Nat.{ℕ, suc, _+_, _≤_, _<_, zero-le}
 use native.Mathlib.Decide.{ℕ-discrete}
 use native.Mathlib.Omega.{arith}
 use lib.ListN.{length}
-use Rattle.laws.specs.Lists.{keep, total, joined, Mem, RisingBy}
+use Rattle.laws.specs.Lists.{keep, total, Mem, RisingBy}
 use Rattle.laws.proofs.Lists.{mem-head, mem-none, largest-ge, largest-met}
 
 module _ {A : Type 0} where
@@ -208,15 +196,3 @@ module _ {A : Type 0} where
       in-cons m (λ e. omega (arith, ap key e, r .0 b (mem-head b xs))) (λ k. last-largest key (b ∷ xs) x d (r .1) k)
 
 -- ---- joined
-
-pub joined-mem : {A B : Type 0} (f : A → List B) (xs : List A) (y : B)
-    → Mem y (joined f xs) ↔ ((x : A) × Mem x xs × Mem y (f x))
-unfolding joined
-joined-mem f [] y = (λ m. mem-none m, λ (x, m, k). mem-none m)
-joined-mem {A} f (a ∷ xs) y =
-    let ih = joined-mem f xs y in (
-      λ m. in-append (f a) m (λ k. (a, mem-head a xs, k)) (λ k. let (x, i, j) = ih .0 k in (x, List·Memᴰ·tail i, j)),
-      λ (x, m, k).
-          in-cons m (λ e. Memᴰ·append-left (joined f xs) (subst (λ (z : A). Mem y (f z)) e k))
-          (λ i. Memᴰ·append-right (f a) (ih .1 (x, i, k))),
-    )

@@ -1,14 +1,14 @@
 -- Lists: totals, largest values, tests, rising keys.
 -- Assumes nothing.
-use mathlib.Core.Path.{_≡_, refl, sym, ap, ap₂, _∙_, subst}
+use mathlib.Core.Path.{_≡_, refl, sym, ap, ap₂, _∙_}
 use mathlib.Core.Logic.{_↔_, _⊎_, inl, inr, ⊎-elim, by-cases}
-use mathlib.Core.Bool.{Bool, true, false, cond, _&&_, _||_, true≢false, false≢true}
-use mathlib.Core.List.{List, [], _∷_, _++_, List·Memᴰ, List·Memᴰ·head, List·Memᴰ·tail, List·Memᴰ·cases-cons, List·Memᴰ·not-nil, Memᴰ·append-left, Memᴰ·append-right}
-use Prim.Native.Nat.{ℕ, zero, suc, _+_, _≤_, _<_, zero-le, max}
-use native.Mathlib.Nat.{le-refl, le-antisymm, zero-add, le-max-left, max-le}
+use mathlib.Core.Bool.{Bool, true, false, _&&_, _||_, true≢false, false≢true, or-true}
+use mathlib.Core.List.{List, [], _∷_, _++_, List·Memᴰ·head, List·Memᴰ·tail, List·Memᴰ·cases-cons, List·Memᴰ·not-nil}
+use Prim.Native.Nat.{ℕ, _+_, _≤_, zero-le}
+use native.Mathlib.Nat.{le-antisymm, zero-add, max-le}
 use native.Mathlib.Decide.{decLe}
 use native.Mathlib.Omega.{arith}
-use Rattle.laws.specs.Lists.{keep, any, every, total, largest, Mem, RisingBy}
+use Rattle.laws.specs.Lists.{any, every, total, largest, Mem, RisingBy}
 
 -- both tests hold
 pub and-true : (a b : Bool) → (a && b) ≡ true → (a ≡ true) × (b ≡ true)
@@ -91,12 +91,14 @@ module _ {A : Type 0} where
   every-true p [] = (λ e x m. mem-none m, λ h. refl)
   every-true p (x ∷ xs) = (to (every-true p xs .0), from (every-true p xs .1))
     where
-      to : (every p xs ≡ true → (y : A) → Mem y xs → p y ≡ true) → (p x && every p xs) ≡ true → (y : A) → Mem y (x ∷ xs) → p y ≡ true
+      to : (every p xs ≡ true → (y : A) → Mem y xs → p y ≡ true)
+          → (p x && every p xs) ≡ true → (y : A) → Mem y (x ∷ xs) → p y ≡ true
       to ih e y m =
           let (a, b) = and-true (p x) (every p xs) e in
           ⊎-elim (λ (q : y ≡ x). ap p q ∙ a) (λ (k : Mem y xs). ih b y k) (List·Memᴰ·cases-cons m)
 
-      from : (((y : A) → Mem y xs → p y ≡ true) → every p xs ≡ true) → ((y : A) → Mem y (x ∷ xs) → p y ≡ true) → (p x && every p xs) ≡ true
+      from : (((y : A) → Mem y xs → p y ≡ true) → every p xs ≡ true)
+          → ((y : A) → Mem y (x ∷ xs) → p y ≡ true) → (p x && every p xs) ≡ true
       from ih h = rw (h x (mem-head x xs), ih (λ y m. h y (List·Memᴰ·tail m)))
 
   pub any-true : (p : A → Bool) (xs : List A) → any p xs ≡ true ↔ ((x : A) × Mem x xs × (p x ≡ true))
@@ -104,15 +106,13 @@ module _ {A : Type 0} where
   any-true p [] = (λ e. absurd (false≢true e), λ (x, m, e). mem-none m)
   any-true p (x ∷ xs) = (to (any-true p xs .0) (p x) refl, from (any-true p xs .1))
     where
-      to : (any p xs ≡ true → (y : A) × Mem y xs × (p y ≡ true)) → (b : Bool) → p x ≡ b → (b || any p xs) ≡ true → (y : A) × Mem y (x ∷ xs) × (p y ≡ true)
+      to : (any p xs ≡ true → (y : A) × Mem y xs × (p y ≡ true))
+          → (b : Bool) → p x ≡ b → (b || any p xs) ≡ true → (y : A) × Mem y (x ∷ xs) × (p y ≡ true)
       to ih true q e = (x, mem-head x xs, q)
       to ih false q e = let (y, m, r) = ih e in (y, List·Memᴰ·tail m, r)
 
-      or-true : (b : Bool) → (b || true) ≡ true
-      or-true true = refl
-      or-true false = refl
-
-      from : ((y : A) × Mem y xs × (p y ≡ true) → any p xs ≡ true) → (y : A) × Mem y (x ∷ xs) × (p y ≡ true) → (p x || any p xs) ≡ true
+      from : ((y : A) × Mem y xs × (p y ≡ true) → any p xs ≡ true)
+          → (y : A) × Mem y (x ∷ xs) × (p y ≡ true) → (p x || any p xs) ≡ true
       from ih (y, m, e) =
           ⊎-elim (λ (q : y ≡ x). rw (sym (ap p q) ∙ e)) (λ (k : Mem y xs). rw (ih (y, k, e)) (or-true (p x)))
           (List·Memᴰ·cases-cons m)
@@ -122,17 +122,20 @@ module _ {A : Type 0} where
   any-false p [] = (λ e x m. mem-none m, λ h. refl)
   any-false p (x ∷ xs) = (to (any-false p xs .0) (p x) refl, from (any-false p xs .1))
     where
-      to : (any p xs ≡ false → (y : A) → Mem y xs → p y ≡ false) → (b : Bool) → p x ≡ b → (b || any p xs) ≡ false → (y : A) → Mem y (x ∷ xs) → p y ≡ false
+      to : (any p xs ≡ false → (y : A) → Mem y xs → p y ≡ false)
+          → (b : Bool) → p x ≡ b → (b || any p xs) ≡ false → (y : A) → Mem y (x ∷ xs) → p y ≡ false
       to ih true q e = absurd (true≢false e)
       to ih false q e = λ y m. ⊎-elim (λ (r : y ≡ x). ap p r ∙ q) (λ (k : Mem y xs). ih e y k) (List·Memᴰ·cases-cons m)
 
-      from : (((y : A) → Mem y xs → p y ≡ false) → any p xs ≡ false) → ((y : A) → Mem y (x ∷ xs) → p y ≡ false) → (p x || any p xs) ≡ false
+      from : (((y : A) → Mem y xs → p y ≡ false) → any p xs ≡ false)
+          → ((y : A) → Mem y (x ∷ xs) → p y ≡ false) → (p x || any p xs) ≡ false
       from ih h = rw (h x (mem-head x xs), ih (λ y m. h y (List·Memᴰ·tail m)))
 
   -- ---- rising keys
 
   -- a list that rises is determined by its members
-  pub rising-unique : (key : A → ℕ) (xs ys : List A) → RisingBy key xs → RisingBy key ys → ((x : A) → Mem x xs → Mem x ys) → ((x : A) → Mem x ys → Mem x xs) → xs ≡ ys
+  pub rising-unique : (key : A → ℕ) (xs ys : List A) → RisingBy key xs → RisingBy key ys
+      → ((x : A) → Mem x xs → Mem x ys) → ((x : A) → Mem x ys → Mem x xs) → xs ≡ ys
   rising-unique key [] [] r s f g = refl
   rising-unique key [] (y ∷ ys) r s f g = mem-none (g y (mem-head y ys))
   rising-unique key (x ∷ xs) [] r s f g = mem-none (f x (mem-head x xs))

@@ -2,7 +2,8 @@
 use mathlib.Core.Bool.{Bool, true, false, cond, _&&_, _||_}
 use mathlib.Core.List.{List, [], _∷_, _++_, List·Memᴰ}
 use mathlib.Core.Option.{Option, none, some}
-use Prim.Native.Nat.{ℕ, _+_, _<_, max}
+use Prim.Native.Nat.{ℕ, _+_, _-_, _<_, max}
+use lib.ListN.{length, replicate}
 use lib.Dec.{ltb}
 
 module _ {A : Type 0} where
@@ -49,6 +50,10 @@ module _ {A : Type 0} where
   abbrev pub RisingBy : (A → ℕ) → List A → Type 0
   RisingBy key [] = Unit {0}
   RisingBy key (x ∷ xs) = ((y : A) → Mem y xs → key x < key y) × RisingBy key xs
+
+  -- a row of n places that begins with xs, and z in the places left
+  unfoldable pub filled : ℕ → A → List A → List A
+  filled n z xs = xs ++ replicate (n - length xs) z
 
 -- f of each, one list after the other
 unfoldable pub joined : {A B : Type 0} → (A → List B) → List A → List B

@@ -1,5 +1,5 @@
 -- Numbers: sums and largest values over a stretch, and the first number that closes.
-use mathlib.Core.Bool.{Bool, true, false, cond, _||_}
+use mathlib.Core.Bool.{Bool, false, cond, _||_}
 use mathlib.Core.Option.{Option, none, some}
 use Prim.Native.Nat.{ℕ, zero, suc, _+_, max, _≤_}
 use lib.Dec.{leb}

@@ -3,17 +3,8 @@
 use mathlib.Core.Path.{_≡_, refl, sym, ap, ap₂, _∙_}
 use mathlib.Core.Logic.{_↔_, ⊎-elim, by-cases}
 use mathlib.Core.Bool.{Bool, true, false, not, cond, _&&_}
-use mathlib.Core.List.{
-  List,
-  [],
-  _∷_,
-  _++_,
-  List·Memᴰ·head,
-  List·Memᴰ·append-cases,
-  List·Memᴰ·eq-of-singleton,
-  Memᴰ·append-left,
-  Memᴰ·append-right,
-}
+use mathlib.Core.List.{List, [], _∷_, List·Memᴰ·head, List·Memᴰ·append-cases, List·Memᴰ·eq-of-singleton}
+use mathlib.Core.List.{Memᴰ·append-left, Memᴰ·append-right}
 use Prim.Native.Nat.{ℕ, zero, suc, _+_, _-_, _%_, _≤_, _<_}
 use native.Mathlib.Nat.{mod-le, mod-add-mod, add-mod-right, add-right-comm, not-suc-le-zero}
 use native.Mathlib.Decide.{ℕ-discrete}
@@ -21,7 +12,7 @@ use native.Mathlib.Omega.{arith}
 use lib.Dec.{ltb}
 use borrow.Author.Tests.{ltb-true, lt-ltb, not-true}
 use Rattle.laws.specs.Lists.{any, Mem, RisingBy}
-use Rattle.laws.proofs.Lists.{and-true, any-false, mem-head, mem-none, rising-unique}
+use Rattle.laws.proofs.Lists.{and-true, any-false, mem-none, rising-unique}
 use Rattle.laws.proofs.Keeping.{rising-append}
 use Rattle.laws.proofs.Numbers.{any-below-true}
 use Rattle.meaning.specs.declared.Gate.{Gate}

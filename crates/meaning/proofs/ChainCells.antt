@@ -3,16 +3,8 @@
 use mathlib.Core.Path.{_≡_, refl, sym, ap, _∙_, subst}
 use mathlib.Core.Logic.{_↔_, _⊎_, inl, inr, ⊎-elim, by-cases}
 use mathlib.Core.Bool.{Bool, true, false, true≢false}
-use mathlib.Core.List.{
-  List,
-  _∷_,
-  _++_,
-  List·Memᴰ·append-cases,
-  Memᴰ·append-left,
-  Memᴰ·append-right,
-  Memᴰ·map,
-  Memᴰ·of-map,
-}
+use mathlib.Core.List.{List, _∷_, _++_, List·Memᴰ·append-cases, Memᴰ·append-left, Memᴰ·append-right, Memᴰ·map}
+use mathlib.Core.List.{Memᴰ·of-map}
 use Prim.Native.Nat.{ℕ, zero, suc, _+_, _-_, _%_, _≤_, _<_}
 use native.Mathlib.Nat.{mod-eq-of-lt, mod-add-mod, add-mod-right, add-zero, zero-add, not-suc-le-zero}
 use native.Mathlib.Decide.{decLe}
@@ -26,24 +18,9 @@ use Rattle.meaning.specs.declared.Slot.{Slot}
 use Rattle.meaning.specs.Runs.{dist, blocks, blocked, starts, row}
 use Rattle.meaning.specs.Promises.{Chain}
 use Rattle.meaning.proofs.Cells.{starts-true, row-true, row-false}
-use Rattle.meaning.proofs.Chains.{
-  later,
-  up,
-  lastEnd,
-  hangEnd,
-  InReach,
-  chain-le,
-  chain-mem,
-  chain-append,
-  chain-split,
-  chain-up,
-  last-mem,
-  last-is,
-  hang-ge,
-  hang-last,
-  hang-in,
-  hang-out,
-}
+use Rattle.meaning.proofs.Chains.{later, up, lastEnd, hangEnd, InReach, chain-le, chain-mem, chain-append}
+use Rattle.meaning.proofs.Chains.{chain-split, chain-up, last-mem, last-is, hang-ge, hang-last, hang-in}
+use Rattle.meaning.proofs.Chains.{hang-out}
 
 -- ---- cells and places: cell c lies at place c + guard, so that a slot reaches from its start on
 

@@ -3,21 +3,9 @@
 use mathlib.Core.Path.{_≡_, refl, ap, _∙_}
 use mathlib.Core.Logic.{_↔_, _⊎_, inl, inr, ⊎-elim}
 use mathlib.Core.Bool.{Bool, true, false, cond}
-use mathlib.Core.List.{
-  List,
-  [],
-  _∷_,
-  _++_,
-  append-assoc,
-  append-nil,
-  map-append,
-  List·Memᴰ·tail,
-  List·Memᴰ·cases-cons,
-  List·Memᴰ·eq-of-singleton,
-  List·Memᴰ·append-cases,
-  Memᴰ·append-left,
-  Memᴰ·append-right,
-}
+use mathlib.Core.List.{List, [], _∷_, _++_, append-assoc, append-nil, map-append, List·Memᴰ·tail}
+use mathlib.Core.List.{List·Memᴰ·cases-cons, List·Memᴰ·eq-of-singleton, List·Memᴰ·append-cases, Memᴰ·append-left}
+use mathlib.Core.List.{Memᴰ·append-right}
 use Prim.Native.Nat.{ℕ, suc, _+_, _-_, _*_, _%_, _≤_, _<_, zero-le}
 use native.Mathlib.Nat.{le-refl, mod-lt, le-mul-of-pos-right, mul-mod-left}
 use native.Mathlib.Omega.{arith}
@@ -35,16 +23,8 @@ use Rattle.meaning.proofs.Cells.{blocked-per, free-cell, starts-true, r
 use Rattle.meaning.proofs.Windows.{covering}
 use Rattle.meaning.proofs.Chains.{later, lastEnd, chain-mem, last-append}
 use Rattle.meaning.proofs.ChainCells.{reachOf, blocked-true, behind}
-use Rattle.meaning.proofs.ChainRuns.{
-  broken,
-  runOf,
-  runAt,
-  chainFrom,
-  chainRuns,
-  runAt-iff,
-  found-iff,
-  chain-runs,
-}
+use Rattle.meaning.proofs.ChainRuns.{broken, runOf, runAt, chainFrom, chainRuns, runAt-iff, found-iff}
+use Rattle.meaning.proofs.ChainRuns.{chain-runs}
 
 -- ---- free cells and runs
 

@@ -3,21 +3,9 @@
 use mathlib.Core.Path.{_≡_, refl, sym, ap, _∙_, subst}
 use mathlib.Core.Logic.{_↔_, ⊎-elim, by-cases}
 use mathlib.Core.Bool.{Bool, true, false, cond}
-use mathlib.Core.List.{
-  List,
-  [],
-  _∷_,
-  _++_,
-  append-assoc,
-  List·Memᴰ·head,
-  List·Memᴰ·tail,
-  List·Memᴰ·cases-cons,
-  List·Memᴰ·eq-of-singleton,
-  List·Memᴰ·append-cases,
-  Memᴰ·cast,
-  Memᴰ·append-left,
-  Memᴰ·append-right,
-}
+use mathlib.Core.List.{List, [], _∷_, _++_, append-assoc, List·Memᴰ·head, List·Memᴰ·tail, List·Memᴰ·cases-cons}
+use mathlib.Core.List.{List·Memᴰ·eq-of-singleton, List·Memᴰ·append-cases, Memᴰ·cast, Memᴰ·append-left}
+use mathlib.Core.List.{Memᴰ·append-right}
 use Prim.Native.Nat.{ℕ, _+_, _-_, _%_, _≤_, _<_}
 use native.Mathlib.Nat.{add-zero, mod-lt, mod-add-mod, add-mod-right, mod-eq-of-lt}
 use native.Mathlib.Decide.{decLt, ℕ-discrete}
@@ -35,23 +23,8 @@ use Rattle.meaning.specs.Runs.{dist, blocked, starts, row, runsOf, runs}
 use Rattle.meaning.specs.Promises.{Chain}
 use Rattle.meaning.proofs.Cells.{IsRun, starts-true, runs-unique}
 use Rattle.meaning.proofs.Chains.{lastEnd, chain-mem}
-use Rattle.meaning.proofs.ChainCells.{
-  reachOf,
-  Hit,
-  Reached,
-  blocked-true,
-  blocked-false,
-  reached-mod,
-  behind,
-  Gap,
-  stopOf,
-  cellOf,
-  no-gap,
-  gap-before,
-  guard-lt,
-  run-starts,
-  run-len,
-}
+use Rattle.meaning.proofs.ChainCells.{reachOf, Hit, Reached, blocked-true, blocked-false, reached-mod, behind}
+use Rattle.meaning.proofs.ChainCells.{Gap, stopOf, cellOf, no-gap, gap-before, guard-lt, run-starts, run-len}
 
 -- ---- the runs by gaps: they look at slots only, never at cells
 

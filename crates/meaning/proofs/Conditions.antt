@@ -12,52 +12,18 @@ use Rattle.meaning.specs.declared.Port.{Port}
 use Rattle.meaning.specs.declared.Slot.{Slot}
 use Rattle.meaning.specs.declared.Stream.{Stream}
 use Rattle.meaning.specs.declared.Refusal.{Refusal}
-use Rattle.meaning.specs.declared.Refusal.the-variants.{
-  OutOfTurn,
-  OutOfRange,
-  Overlap,
-  Full,
-  IdHeld,
-  NotHeld,
-  NoFreeCell,
-}
-use Rattle.meaning.specs.Ranges.{
-  mostSlots,
-  mostStreams,
-  octetLimit,
-  portRanges,
-  slotRanges,
-  streamRanges,
-  inRange,
-}
+use Rattle.meaning.specs.declared.Refusal.the-variants.{OutOfTurn, OutOfRange, Overlap, Full, IdHeld, NotHeld}
+use Rattle.meaning.specs.declared.Refusal.the-variants.{NoFreeCell}
+use Rattle.meaning.specs.Ranges.{mostSlots, mostStreams, octetLimit, portRanges, slotRanges, streamRanges}
+use Rattle.meaning.specs.Ranges.{inRange}
 use Rattle.meaning.specs.Runs.{gateOf, hasFree}
 use Rattle.meaning.specs.Response.{others}
 use Rattle.meaning.specs.Refusals.{numberOf, accepted, refused}
 use Rattle.meaning.specs.Desks.{Desk, bare, opened}
-use Rattle.meaning.specs.Calls.{
-  overlaps,
-  withSlot,
-  withStream,
-  openPort,
-  addSlot,
-  removeSlot,
-  addStream,
-  removeStream,
-}
-use Rattle.meaning.proofs.Refusing.{
-  tells-itself,
-  tells-not,
-  tells-leb,
-  one-of-these,
-  none-of-these,
-  stops,
-  passes,
-  passed,
-  flat₃,
-  flat₄,
-  flat₅,
-  turned-away,
-}
+use Rattle.meaning.specs.Calls.{overlaps, withSlot, withStream, openPort, addSlot, removeSlot, addStream}
+use Rattle.meaning.specs.Calls.{removeStream}
+use Rattle.meaning.proofs.Refusing.{tells-itself, tells-not, tells-leb, one-of-these, none-of-these, stops}
+use Rattle.meaning.proofs.Refusing.{passes, passed, flat₃, flat₄, flat₅, turned-away}
 
 -- A record for each call has a field for each number, in the paper's order, then `accepts`, and then `only`: no other
 -- number is answered.

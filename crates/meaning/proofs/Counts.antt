@@ -1,20 +1,20 @@
 -- The count from a start, by whole cycles and a rest.
 -- Assumes nothing.
-use mathlib.Core.Path.{_≡_, refl, sym, ap, ap₂, _∙_}
+use mathlib.Core.Path.{_≡_, sym, ap, ap₂, _∙_}
 use mathlib.Core.Logic.{by-cases}
 use mathlib.Core.Bool.{cond}
-use mathlib.Core.List.{List, [], _∷_, _++_, List·Memᴰ·tail}
-use Prim.Native.Nat.{ℕ, zero, suc, _+_, _-_, _*_, _/_, _%_, _≤_, _<_}
+use mathlib.Core.List.{List, [], _∷_, List·Memᴰ·tail}
+use Prim.Native.Nat.{ℕ, zero, suc, _+_, _*_, _/_, _%_, _<_}
 use native.Mathlib.Nat.{zero-add, add-suc, zero-mul, mod-lt, add-mod-left, div-add-mod', add-left-comm}
 use native.Mathlib.Decide.{ℕ-discrete}
 use native.Mathlib.Omega.{arith}
-use lib.Dec.{leb, ltb, eqb, leb·suc-suc}
+use lib.Dec.{leb, eqb, leb·suc-suc}
 use borrow.Author.Tests.{eq-eqb, ne-eqb, lt-ltb}
 use Rattle.laws.specs.Lists.{total, Mem}
 use Rattle.laws.specs.Numbers.{sum}
 use Rattle.laws.proofs.Sums.{sum-ext, sum-add, sum-split, sum-zero, sum-one}
 use Rattle.laws.proofs.Circle.{at-dist, sum-round}
-use Rattle.laws.proofs.Lists.{mem-head, mem-none}
+use Rattle.laws.proofs.Lists.{mem-head}
 use Rattle.meaning.specs.declared.Run.{Run}
 use Rattle.meaning.specs.Runs.{dist}
 use Rattle.meaning.specs.Interference.{lenAt, allLen, count}

@@ -15,34 +15,10 @@ use Rattle.laws.proofs.Joining.{mem-take, mem-drop}
 use Rattle.meaning.specs.declared.Refusal.{Refusal}
 use Rattle.meaning.specs.declared.Refusal.the-variants.{CutShort, UnknownTag, WrongLength}
 use Rattle.meaning.specs.Refusals.{accepted, refused, numberOf}
-use Rattle.meaning.specs.Bytes.{
-  octetsOf,
-  numberAfter,
-  numberAt,
-  Field,
-  portField,
-  slotField,
-  streamField,
-  tagOf,
-  valueLength,
-  valueOf,
-  fieldOf,
-  fieldLength,
-  fieldOctets,
-  front,
-}
-use Rattle.meaning.proofs.Refusing.{
-  Tells,
-  tells-ltb,
-  tells-other,
-  one-of-these,
-  stops,
-  passes,
-  stops-or-passes,
-  passed,
-  flat₃,
-  flat₅,
-}
+use Rattle.meaning.specs.Bytes.{octetsOf, numberAfter, numberAt, Field, portField, slotField, streamField}
+use Rattle.meaning.specs.Bytes.{tagOf, valueLength, valueOf, fieldOf, fieldLength, fieldOctets, front}
+use Rattle.meaning.proofs.Refusing.{Tells, tells-ltb, tells-other, one-of-these, stops, passes}
+use Rattle.meaning.proofs.Refusing.{stops-or-passes, passed, flat₃, flat₅}
 use Rattle.meaning.proofs.Octets.{Octets, number-of-octets, octets-next}
 
 -- ---- lengths

@@ -1,15 +1,14 @@
--- The figures of document 01, by the forms that compute: runs by gaps, V by cycles and a rest, least numbers by iteration.
+-- The figures of document 01, by the forms that compute: runs by gaps, V by cycles and a rest, least numbers by steps.
 -- Assumes nothing.
 use mathlib.Core.Path.{_≡_, refl, sym, ap, _∙_, subst, fun-ext}
 use mathlib.Core.Bool.{Bool, true, false}
-use mathlib.Core.List.{List, [], _∷_, List·Memᴰ·head, foldr}
-use mathlib.Core.Option.{Option, some, Option·getD}
-use Prim.Native.Nat.{ℕ, zero, suc, _+_, _-_, _*_, _/_, _%_, _≤_, _<_}
+use mathlib.Core.List.{List, [], _∷_, List·Memᴰ·head}
+use mathlib.Core.Option.{Option, some}
+use Prim.Native.Nat.{ℕ, _+_, _-_, _*_, _/_, _%_, _≤_, _<_}
 use native.Mathlib.Nat.{le-refl}
 use native.Mathlib.Omega.{arith}
-use lib.ListN.{length}
 use lib.Dec.{lit<, lit≤}
-use borrow.Author.Tests.{eq-eqb, le-ltb}
+use borrow.Author.Tests.{eq-eqb}
 use Rattle.laws.specs.Lists.{keep, any, every, total, largest, insertBy, find, joined, Mem}
 use Rattle.laws.specs.Numbers.{largestTo, Least, Mono}
 use Rattle.laws.proofs.Lists.{mem-none}
@@ -19,35 +18,32 @@ use Rattle.meaning.specs.declared.Gate.{Gate}
 use Rattle.meaning.specs.declared.Slot.{Slot}
 use Rattle.meaning.specs.declared.Stream.{Stream}
 use Rattle.meaning.specs.declared.Run.{Run}
-use Rattle.meaning.specs.declared.Refusal.the-variants.{NoFreeCell, Late}
-use Rattle.meaning.specs.Ranges.{horizon, mostSlots, mostStreams, octetLimit, portRanges, slotRanges, streamRanges}
+use Rattle.meaning.specs.declared.Refusal.the-variants.{CutShort, OutOfTurn}
+use Rattle.meaning.specs.Ranges.{horizon, mostSlots, mostStreams, octetLimit, portRanges, slotRanges}
+use Rattle.meaning.specs.Ranges.{streamRanges}
 use Rattle.meaning.specs.Wire.{wireTime, tenOctets, extraOctets}
 use Rattle.meaning.specs.Runs.{gateOf, hasFree, runs}
-use Rattle.meaning.specs.Interference.{
-  interference, interferenceOf, allLen, pairs, pairsFrom, pairsMeeting, covers, same, uncovered, put, stairsOf, stairs
-}
+use Rattle.meaning.specs.Interference.{interference, allLen, pairs, pairsFrom, pairsMeeting, covers, same}
+use Rattle.meaning.specs.Interference.{uncovered, put, stairsOf, stairs}
 use Rattle.meaning.specs.Arrivals.{mostIn, earliest}
-use Rattle.meaning.specs.Response.{
-  others, ahead, lowerWire, load, busyLoad, window, waitLoad, response, boundIn, bound
-}
-use Rattle.meaning.specs.Refusals.{Answer, accepted, refused, unless}
-use Rattle.meaning.specs.Desks.{Desk, bare, opened}
-use Rattle.meaning.specs.Calls.{
-  openPort, addSlot, addStream, askRuns, askStairs, askInterference, boundOf, verdict, respond, askResponse
-}
-use Rattle.meaning.specs.Bytes.{
-  octetsOf, tagOf, valueLength, valueOf, fieldLength, fieldOctets, edit, fieldsOf, planOctets, planLength, writePlan
-}
-use Rattle.meaning.specs.Promises.{Chain}
-use Rattle.meaning.specs.Figures.{
-  slot, run, stair, octetsF, portF, slotsF, streamF₁, streamF₂, deskF, desk₄, port₈, stream₈, Figures
-}
+use Rattle.meaning.specs.Response.{others, ahead, lowerWire, load, busyLoad, window, waitLoad, response}
+use Rattle.meaning.specs.Response.{boundIn, bound}
+use Rattle.meaning.specs.Refusals.{accepted, unless}
+use Rattle.meaning.specs.Calls.{addSlot, askRuns, askStairs, askInterference, boundOf, verdict, respond}
+use Rattle.meaning.specs.Calls.{askResponse}
+use Rattle.meaning.specs.Bytes.{octetsOf, tagOf, valueLength, valueOf, fieldOctets, fieldsOf, planOctets}
+use Rattle.meaning.specs.Bytes.{planLength, front, afterFront, step, walk, refusedAt, ended, readPlan}
+use Rattle.meaning.specs.Promises.{Sound}
+use Rattle.meaning.specs.Figures.{slot, run, stair, octetsF, portF, slotsF, streamF₁, streamF₂, deskF, port₈}
+use Rattle.meaning.specs.Figures.{stream₈, Figures}
 use Rattle.meaning.proofs.Counts.{met}
-use Rattle.meaning.proofs.Cells.{runs-below, no-slots-free}
 use Rattle.meaning.proofs.Chains.{lastEnd, hangEnd}
 use Rattle.meaning.proofs.ChainRuns.{broken, runOf, runAt, chainFrom, chainRuns, chain-runs}
 use Rattle.meaning.proofs.ChainFree.{free-has-run}
-use Rattle.meaning.proofs.Interferences.{interference-law, interference-mono}
+use Rattle.meaning.proofs.Interferences.{interference-law}
+use Rattle.meaning.proofs.Gates.{slots-below, slots-grow}
+use Rattle.meaning.proofs.Plans.{plan-length, write-says}
+use Rattle.meaning.proofs.Readings.{written-reads-back}
 use Rattle.meaning.proofs.Responses.{window-some, bound-some, response-some, busy-mono, wait-mono}
 
 -- ---- the form of V that computes
@@ -55,14 +51,11 @@ use Rattle.meaning.proofs.Responses.{window-some, bound-some, response-
 unfoldable quick : ℕ → List Run → ℕ → ℕ
 quick n rs t = t / n * allLen rs + largest (λ r. met n rs (r .start) (t % n)) rs
 
-quick-is : (g : Gate) (ss : List Slot) (rs : List Run) → runs g ss ≡ rs → (t : ℕ) → interference g ss t ≡ quick (g .cycle) rs t
-unfolding quick interference runs
+quick-is : (g : Gate) (ss : List Slot) (rs : List Run) → runs g ss ≡ rs → (t : ℕ)
+    → interference g ss t ≡ quick (g .cycle) rs t
+unfolding quick interference
 quick-is g ss rs e t =
-    interference-law (g .cycle) (runs g ss) t (runs-below (g .cycle) _) ∙ ap (λ (x : List Run). quick (g .cycle) x t) e
-
-interference-grows : (g : Gate) (ss : List Slot) → Mono (interference g ss)
-unfolding interference
-interference-grows g ss = interference-mono (g .cycle) (runs g ss)
+    interference-law (g .cycle) (runs g ss) t (slots-below g ss) ∙ ap (λ (x : List Run). quick (g .cycle) x t) e
 
 -- ---- F's runs, stairs and V
 
@@ -87,7 +80,9 @@ valuesF : (interference gateF slotsF 0 ≡ 10_000)
     × (interference gateF slotsF 100_000 ≡ 29_500)
     × (interference gateF slotsF 130_000 ≡ 33_500)
 unfolding quick met allLen total largest
-valuesF = let at = quick-is gateF slotsF runsF are-runsF in (at 0, at 29_999, at 30_000, at 99_999, at 100_000, at 130_000)
+valuesF =
+    let at = quick-is gateF slotsF runsF are-runsF in
+    (at 0, at 29_999, at 30_000, at 99_999, at 100_000, at 130_000)
 
 -- ---- P4 to P7
 
@@ -176,11 +171,24 @@ module _ (id priority deadline : ℕ) where
       bound-some 2 (λ x. 0) 0 [] s₈ 40_000 busy₈ (lit≤ tt)
       ∙ rw (responses₈ .0, responses₈ .1, responses₈ .2, responses₈ .3)
 
+  -- beside no slots, V is 0
+  silent : (g : Gate) → interference g [] ≡ (λ x. 0)
+  silent g = fun-ext (no-slots-no-interference g)
+
+  window-alone : (g : Gate) → window 2 (interference g []) 0 [] s₈ ≡ some 40_000
+  window-alone g = rw (silent g) window₈
+
+  responses-alone : (g : Gate) → (response 2 (interference g []) 0 [] s₈ 40_000 1 ≡ some 10_000)
+      × (response 2 (interference g []) 0 [] s₈ 40_000 2 ≡ some 20_000)
+      × (response 2 (interference g []) 0 [] s₈ 40_000 3 ≡ some 20_000)
+      × (response 2 (interference g []) 0 [] s₈ 40_000 4 ≡ some 10_000)
+  responses-alone g = rw (silent g) responses₈
+
   bound-alone : (g : Gate) → boundOf (port₈ g) [] (s₈ ∷ []) s₈ ≡ some 20_000
   unfolding boundOf gateOf others keep lowerWire largest
   bound-alone g =
       rw (eq-eqb id id refl)
-      (subst (λ (v : ℕ → ℕ). bound 2 v 0 [] s₈ ≡ some 20_000) (sym (fun-ext (no-slots-no-interference g))) bound₈)
+      (rw (silent g) bound₈)
 
 -- ---- P10
 
@@ -205,25 +213,99 @@ VF : interference gateF slotsF ≡ quickF
 VF = fun-ext (quick-is gateF slotsF runsF are-runsF)
 
 quickF-grows : Mono quickF
-quickF-grows = rw VF at (interference-grows gateF slotsF)
+quickF-grows = rw VF at (slots-grow gateF slotsF)
 
 long : (i : Stream) → 0 < i .period → (j : Stream) → Mem j (i ∷ []) → 0 < j .period
 long i h j m = in-cons m (λ e. subst (λ (k : Stream). 0 < k .period) (sym e) h) (λ k. mem-none k)
 
 boundF₁ : boundOf portF slotsF (streamF₁ ∷ streamF₂ ∷ []) streamF₁ ≡ some 44_000
 unfolding
-  boundOf gateOf others ahead keep lowerWire largest busyLoad waitLoad load total mostIn earliest wireTime extraOctets tenOctets iter quick
-  met allLen horizon
+    boundOf gateOf others ahead keep lowerWire largest busyLoad waitLoad load total mostIn earliest wireTime extraOctets
+    tenOctets iter quick met allLen horizon
 boundF₁ =
     rw VF
-    (bound-single 2 quickF 20_000 (streamF₂ ∷ []) streamF₁ (long streamF₂ (lit< tt)) quickF-grows (lit< tt) 8 44_000 refl
-    (lit≤ tt) (lit≤ tt) refl 8 34_000 refl (lit≤ tt))
+    (bound-single 2 quickF 20_000 (streamF₂ ∷ []) streamF₁ (long streamF₂ (lit< tt)) quickF-grows (lit< tt) 8 44_000
+    refl (lit≤ tt) (lit≤ tt) refl 8 34_000 refl (lit≤ tt))
 
 boundF₂ : boundOf portF slotsF (streamF₁ ∷ streamF₂ ∷ []) streamF₂ ≡ some 44_000
 unfolding
-  boundOf gateOf others ahead keep lowerWire largest busyLoad waitLoad load total mostIn earliest wireTime extraOctets tenOctets iter quick
-  met allLen horizon
+    boundOf gateOf others ahead keep lowerWire largest busyLoad waitLoad load total mostIn earliest wireTime extraOctets
+    tenOctets iter quick met allLen horizon
 boundF₂ =
     rw VF
-    (bound-single 2 quickF 0 (streamF₁ ∷ []) streamF₂ (long streamF₁ (lit< tt)) quickF-grows (lit< tt) 8 44_000 refl
-    (lit≤ tt) (lit≤ tt) refl 8 24_000 refl (lit≤ tt))
+    (bound-single 2 quickF 0 (streamF₁ ∷ []) streamF₂ (long streamF₁ (lit< tt)) quickF-grows (lit< tt) 8 44_000
+    refl (lit≤ tt) (lit≤ tt) refl 8 24_000 refl (lit≤ tt))
+
+-- ---- F's octets
+
+freeF : hasFree (gateOf portF (streamF₁ ∷ streamF₂ ∷ [])) slotsF ≡ true
+unfolding gateOf chainRuns chainFrom runAt runOf broken lastEnd hangEnd
+freeF =
+    free-has-run gateF (slot 10_000 14_000) (slot 30_000 32_500 ∷ slot 60_000 68_500 ∷ []) (omega arith) .0
+    (run 9_000 5_500, List·Memᴰ·head refl)
+
+soundF : Sound portF slotsF (streamF₁ ∷ streamF₂ ∷ [])
+unfolding portRanges streamRanges octetLimit mostSlots mostStreams every
+soundF =
+    record {
+      port-in = refl;
+      few-slots = lit≤ tt;
+      chain = omega arith;
+      some-free = freeF;
+      few-streams = lit≤ tt;
+      streams-in = each;
+      ids-rise = (λ j m. in-cons m (rises j) (λ k. mem-none k), (λ j m. mem-none m, tt));
+    }
+  where
+    rises : (j : Stream) → j ≡ streamF₂ → 1 < j .id
+    rises j e = omega (arith, ap (λ (k : Stream). k .id) e)
+
+    each : (j : Stream) → Mem j (streamF₁ ∷ streamF₂ ∷ []) → every (λ b. b) (streamRanges (octetLimit portF) j) ≡ true
+    each j m = in-cons m (λ e. rw e) (λ k. in-cons k (λ e. rw e) (λ n. mem-none n))
+
+octets-are-F : planOctets deskF ≡ octetsF
+unfolding planOctets fieldsOf joined fieldOctets octetsOf tagOf valueLength valueOf octetsF
+octets-are-F = refl
+
+empty-refused : readPlan [] ≡ refusedAt OutOfTurn 0
+unfolding readPlan walk ended
+empty-refused = refl
+
+lone-refused : readPlan (0x01 ∷ []) ≡ refusedAt CutShort 0
+unfolding readPlan walk step front unless afterFront ended
+lone-refused = refl
+
+-- ---- all of them
+
+pub figures : Figures
+unfolding
+    wireTime extraOctets tenOctets octetsF gateOf horizon mostSlots unless every any insertBy slotRanges askRuns
+    askStairs askInterference addSlot find respond verdict askResponse planLength
+figures =
+    record {
+      p1 = (refl, refl, refl);
+      f-octets = refl;
+      f-reads = ap readPlan (sym octets-are-F) ∙ written-reads-back portF slotsF (streamF₁ ∷ streamF₂ ∷ []) soundF;
+      f-writes =
+          λ room h.
+          write-says room portF slotsF (streamF₁ ∷ streamF₂ ∷ []) .accepts octetsF .1
+          (omega (arith, plan-length portF slotsF (streamF₁ ∷ streamF₂ ∷ [])), sym octets-are-F);
+      f-runs = ap accepted are-runsF;
+      f-stairs = ap accepted are-stairsF;
+      p2 = (ap accepted (valuesF .0), ap accepted (valuesF .1), ap accepted (valuesF .2));
+      p3 = (ap accepted (valuesF .3), ap accepted (valuesF .4), ap accepted (valuesF .5));
+      p4 = λ rate. ap accepted runs₄;
+      p5-added = λ rate. rw free₅;
+      p5 = λ rate. ap accepted runs₅;
+      p6-refused = λ rate. rw full₆;
+      p6-accepted = λ rate. rw free₆;
+      p6 = λ rate. (ap accepted (values₆ .0), ap accepted (values₆ .1));
+      p7 = no-slots-no-interference;
+      p8-window = λ g id priority deadline. window-alone id priority deadline g;
+      p8-responses = λ g id priority deadline. responses-alone id priority deadline g;
+      p8 = λ g id priority deadline. bound-alone id priority deadline g;
+      p10 = (ap (verdict streamF₁) boundF₁, ap (verdict streamF₂) boundF₂);
+      empty-input = empty-refused;
+      lone-octet = lone-refused;
+      over-horizon = refl;
+    }

@@ -15,23 +15,16 @@ use Rattle.laws.specs.Numbers.{sum, Mono}
 use Rattle.laws.proofs.Sums.{sum-ext, sum-split, sum-mono, sum-front}
 use Rattle.laws.proofs.Circle.{dist-self}
 use Rattle.laws.proofs.Lists.{largest-ge, largest-le, largest-ext, largest-add}
-use Rattle.laws.proofs.Keeping.{
-  no-members,
-  mem-length,
-  keep-mem,
-  largest-passing,
-  total-some,
-  rising-shorter,
-  last-mem,
-  last-largest,
-}
+use Rattle.laws.proofs.Keeping.{no-members, mem-length, keep-mem, largest-passing, total-some, rising-shorter}
+use Rattle.laws.proofs.Keeping.{last-mem, last-largest}
 use Rattle.meaning.specs.declared.Run.{Run}
 use Rattle.meaning.specs.declared.Stair.{Stair}
 use Rattle.meaning.specs.Runs.{dist}
 use Rattle.meaning.specs.Interference.{lenAt, allLen, count, interferenceOf, pairs, byStairs}
 use Rattle.meaning.specs.Promises.{IsStairs, Stairway}
 use Rattle.meaning.proofs.Counts.{Below, met, count-met, count-law}
-use Rattle.meaning.proofs.Stairs.{same-far, same-total, none-covers, reached, reached-ge, reached-le, last-total}
+use Rattle.meaning.proofs.Stairs.{same-far, same-total, none-covers, reached, reached-ge, reached-le}
+use Rattle.meaning.proofs.Stairs.{last-total}
 use Rattle.meaning.proofs.Pairs.{met-grows, met-all, met-at-most, pairTo, pairs-mem, away, pairs-away}
 
 -- ---- the largest count

@@ -2,17 +2,8 @@
 -- Assumes nothing.
 use mathlib.Core.Path.{_≡_, refl, sym, ap, ap₂, _∙_}
 use mathlib.Core.Logic.{⊎-elim}
-use mathlib.Core.List.{
-  List,
-  [],
-  _∷_,
-  _++_,
-  List·Memᴰ·tail,
-  List·Memᴰ·append-cases,
-  List·Memᴰ·eq-of-singleton,
-  append-nil,
-  append-assoc,
-}
+use mathlib.Core.List.{List, [], _∷_, _++_, List·Memᴰ·tail, List·Memᴰ·append-cases, List·Memᴰ·eq-of-singleton}
+use mathlib.Core.List.{append-nil, append-assoc}
 use Prim.Native.Nat.{ℕ, zero, suc, _+_, _*_, _/_, _%_, _^_, _≤_, _<_}
 use native.Mathlib.Nat.{zero-add, add-zero, add-suc, suc-add, pow-zero, pow-suc, mul-le-mul-right}
 use native.Mathlib.Omega.{arith}

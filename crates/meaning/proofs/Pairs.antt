@@ -3,19 +3,8 @@
 use mathlib.Core.Path.{_≡_, refl, sym, ap, ap₂, _∙_}
 use mathlib.Core.Logic.{_↔_, ⊎-elim}
 use mathlib.Core.Bool.{Bool, true, false, cond}
-use mathlib.Core.List.{
-  List,
-  [],
-  _∷_,
-  _++_,
-  map,
-  List·Memᴰ·tail,
-  Memᴰ·cast,
-  Memᴰ·append-left,
-  Memᴰ·append-right,
-  Memᴰ·map,
-  Memᴰ·of-map,
-}
+use mathlib.Core.List.{List, [], _∷_, _++_, map, List·Memᴰ·tail, Memᴰ·cast, Memᴰ·append-left, Memᴰ·append-right}
+use mathlib.Core.List.{Memᴰ·map, Memᴰ·of-map}
 use Prim.Native.Nat.{ℕ, suc, _+_, _-_, _*_, _≤_, _<_, zero-le}
 use native.Mathlib.Nat.{le-refl}
 use native.Mathlib.Omega.{arith}
@@ -23,21 +12,11 @@ use lib.ListN.{length, length-append}
 use lib.Seq.{append-snoc}
 use lib.Dec.{leb, ltb}
 use borrow.Author.Tests.{leb-true, le-leb, lt-leb, le-ltb}
-use Rattle.laws.specs.Lists.{keep, total, joined, Mem, RisingBy}
+use Rattle.laws.specs.Lists.{keep, total, Mem, RisingBy}
 use Rattle.laws.proofs.Circle.{dist-up, dist-down, dist-self}
 use Rattle.laws.proofs.Lists.{mem-head, mem-none, total-append, total-ext, total-le}
-use Rattle.laws.proofs.Keeping.{
-  in-cons,
-  in-append,
-  mem-swap,
-  keep-append,
-  keep-shorter,
-  total-some,
-  rising-key,
-  rising-append,
-  rising-parts,
-  joined-mem,
-}
+use Rattle.laws.proofs.Keeping.{in-cons, in-append, mem-swap, keep-append, keep-shorter, total-some, rising-key}
+use Rattle.laws.proofs.Keeping.{rising-append, rising-parts}
 use Rattle.meaning.specs.declared.Run.{Run}
 use Rattle.meaning.specs.declared.Stair.{Stair}
 use Rattle.meaning.specs.Runs.{dist}

@@ -18,30 +18,10 @@ use Rattle.meaning.specs.declared.Refusal.the-variants.{OutOfTurn, NoRoo
 use Rattle.meaning.specs.Ranges.{mostSlots, mostStreams}
 use Rattle.meaning.specs.Refusals.{Answer, accepted, refused, numberOf}
 use Rattle.meaning.specs.Desks.{Desk, bare, opened}
-use Rattle.meaning.specs.Bytes.{
-  slotField,
-  streamField,
-  tagOf,
-  valueLength,
-  fieldLength,
-  fieldOctets,
-  fieldsOf,
-  planOctets,
-  planLength,
-  writePlan,
-  written,
-  roomAfter,
-}
-use Rattle.meaning.proofs.Refusing.{
-  tells-ltb,
-  accepted≢refused,
-  one-of-these,
-  none-of-these,
-  stops,
-  passes,
-  passed,
-  turned-away,
-}
+use Rattle.meaning.specs.Bytes.{slotField, streamField, tagOf, valueLength, fieldLength, fieldOctets, fieldsOf}
+use Rattle.meaning.specs.Bytes.{planOctets, planLength, writePlan, written, roomAfter}
+use Rattle.meaning.proofs.Refusing.{tells-ltb, accepted≢refused, one-of-these, none-of-these, stops, passes}
+use Rattle.meaning.proofs.Refusing.{passed, turned-away}
 use Rattle.meaning.proofs.Fields.{field-length}
 
 -- ---- lengths

@@ -24,20 +24,8 @@ use Rattle.meaning.specs.Interference.{interference, stairs}
 use Rattle.meaning.specs.Refusals.{numberOf, Answer, accepted, refused, _⇒_, unless}
 use Rattle.meaning.specs.Desks.{Desk, bare, opened}
 use Rattle.meaning.specs.Calls.{askRuns, askStairs, askInterference, boundOf, verdict, respond, askResponse}
-use Rattle.meaning.proofs.Refusing.{
-  tells-ltb,
-  accepted≢refused,
-  accepted-is,
-  numberIn,
-  numbers-differ,
-  not-among,
-  one-of-these,
-  none-of-these,
-  stops,
-  passes,
-  passed,
-  turned-away,
-}
+use Rattle.meaning.proofs.Refusing.{tells-ltb, accepted≢refused, accepted-is, numberIn, numbers-differ}
+use Rattle.meaning.proofs.Refusing.{not-among, one-of-these, none-of-these, stops, passes, passed, turned-away}
 
 -- A record for each call has a field for each number, in the paper's order, then `accepts`, and then `only`: no other
 -- number is answered, or `never`: none is, on an open desk.

@@ -7,22 +7,8 @@ use mathlib.Core.List.{List, [], _∷_, map, List·Memᴰ·head, List·Memᴰ·t
 use Prim.Native.Nat.{ℕ, _≤_, _<_}
 use native.Mathlib.Omega.{arith}
 use lib.Dec.{leb, ltb, eqb}
-use borrow.Author.Tests.{
-  leb-true,
-  leb-false,
-  ltb-true,
-  ltb-false,
-  eqb-true,
-  eqb-false,
-  eq-eqb,
-  ne-eqb,
-  le-leb,
-  lt-leb,
-  lt-ltb,
-  le-ltb,
-  not-true,
-  not-false,
-}
+use borrow.Author.Tests.{leb-true, leb-false, ltb-true, ltb-false, eqb-true, eqb-false, eq-eqb, ne-eqb, le-leb}
+use borrow.Author.Tests.{lt-leb, lt-ltb, le-ltb, not-true, not-false}
 use Rattle.laws.specs.Lists.{any, Mem}
 use Rattle.laws.proofs.Lists.{any-false}
 use Rattle.meaning.specs.declared.Port.{Port}

@@ -1,41 +1,23 @@
 -- The response bound: what document 01 says of windows, waits and responses, and that it describes one bound.
 -- Assumes nothing.
 use mathlib.Core.Path.{_≡_, refl, sym, ap, _∙_}
-use mathlib.Core.Logic.{_↔_, _⊎_, inl, inr, ⊎-elim, by-cases, Iff·trans}
+use mathlib.Core.Logic.{_↔_, _⊎_, inl, inr, by-cases, Iff·trans}
 use mathlib.Core.List.{List}
 use mathlib.Core.Option.{Option, none, some, Option·map, Option·getD, map-eq-none-iff, map-eq-some-iff}
 use Prim.Native.Nat.{ℕ, _+_, _-_, _*_, _≤_, _<_}
 use native.Mathlib.Nat.{le-antisymm, mul-le-mul-right}
 use native.Mathlib.Decide.{decLe}
 use native.Mathlib.Omega.{arith}
-use Rattle.laws.specs.Lists.{keep, Mem}
+use Rattle.laws.specs.Lists.{Mem}
 use Rattle.laws.specs.Numbers.{largestTo, Least, Mono}
 use Rattle.laws.proofs.Lists.{total-le}
 use Rattle.laws.proofs.Keeping.{keep-mem}
-use Rattle.laws.proofs.Leasts.{
-  least-unique,
-  least-some,
-  least-none,
-  least-found,
-  Under,
-  largestTo-ge,
-  largestTo-met,
-}
+use Rattle.laws.proofs.Leasts.{least-unique, least-some, least-none, least-found, Under, largestTo-ge, largestTo-met}
 use Rattle.meaning.specs.declared.Stream.{Stream}
 use Rattle.meaning.specs.Ranges.{horizon}
 use Rattle.meaning.specs.Wire.{wireTime}
 use Rattle.meaning.specs.Arrivals.{mostIn, earliest}
-use Rattle.meaning.specs.Response.{
-  ahead,
-  load,
-  busyLoad,
-  window,
-  waitLoad,
-  wait,
-  response,
-  boundIn,
-  bound,
-}
+use Rattle.meaning.specs.Response.{ahead, load, busyLoad, window, waitLoad, wait, response, boundIn, bound}
 use Rattle.meaning.specs.Promises.{IsBound}
 use Rattle.meaning.proofs.Arrivals.{counted, most-grows, most-one}
 

@@ -22,26 +22,13 @@ use Rattle.meaning.specs.Runs.{gateOf, hasFree}
 use Rattle.meaning.specs.Response.{others}
 use Rattle.meaning.specs.Refusals.{accepted}
 use Rattle.meaning.specs.Desks.{Desk, bare, opened, SameDesk}
-use Rattle.meaning.specs.Calls.{
-  overlaps,
-  withSlot,
-  withStream,
-  openPort,
-  addSlot,
-  removeSlot,
-  addStream,
-  removeStream,
-}
+use Rattle.meaning.specs.Calls.{overlaps, withSlot, withStream, openPort, addSlot, removeSlot, addStream}
+use Rattle.meaning.specs.Calls.{removeStream}
 use Rattle.meaning.specs.Promises.{Chain, Sound, SoundDesk}
 use Rattle.meaning.proofs.InRange.{port-in, slot-in}
 use Rattle.meaning.proofs.Refusing.{accepted≢refused}
-use Rattle.meaning.proofs.Conditions.{
-  open-says,
-  add-slot-says,
-  remove-slot-says,
-  add-stream-says,
-  remove-stream-says,
-}
+use Rattle.meaning.proofs.Conditions.{open-says, add-slot-says, remove-slot-says, add-stream-says}
+use Rattle.meaning.proofs.Conditions.{remove-stream-says}
 use Rattle.meaning.proofs.Cells.{no-slots-free, fewer-slots-free}
 use Rattle.meaning.proofs.Chains.{chain-mem}
 

@@ -6,18 +6,8 @@ use mathlib.Core.Bool.{Bool, true, false, not, cond, _&&_, true≢false}
 use mathlib.Core.List.{List, [], _∷_}
 use mathlib.Mathlib.Data.Bool.Basic.{dichotomy}
 use Prim.Native.Nat.{ℕ, zero, suc, _+_, _-_, _%_, _≤_, _<_, zero-le}
-use native.Mathlib.Nat.{
-  le-refl,
-  le-trans,
-  not-suc-le-zero,
-  zero-add,
-  add-zero,
-  add-suc,
-  suc-add,
-  add-right-comm,
-  mod-lt,
-  mod-add-mod,
-}
+use native.Mathlib.Nat.{le-refl, le-trans, not-suc-le-zero, zero-add, add-zero, add-suc, suc-add, add-right-comm}
+use native.Mathlib.Nat.{mod-lt, mod-add-mod}
 use native.Mathlib.Decide.{ℕ-discrete}
 use native.Mathlib.Omega.{arith}
 use lib.Dec.{eqb}
@@ -34,18 +24,8 @@ use Rattle.meaning.specs.Runs.{dist, blocked, hasFree, starts, row, runs
 use Rattle.meaning.specs.Interference.{lenAt, allLen, count, interferenceOf, interference}
 use Rattle.meaning.specs.Promises.{blockedIn, Covering}
 use Rattle.meaning.proofs.Counts.{sum-lenAt}
-use Rattle.meaning.proofs.Cells.{
-  blocked-per,
-  free-cell,
-  Repeats,
-  starts-true,
-  starts-per,
-  row-true,
-  row-false,
-  runIf,
-  runs-iff,
-  runs-below,
-}
+use Rattle.meaning.proofs.Cells.{blocked-per, free-cell, Repeats, starts-true, starts-per, row-true, row-false}
+use Rattle.meaning.proofs.Cells.{runIf, runs-iff, runs-below}
 
 -- ---- rows of blocked cells
 

@@ -1,12 +1,10 @@
 -- Wire time: rounded up once, never 0 at a known rate, and how large it can be.
 -- Assumes nothing.
-use mathlib.Core.Path.{_≡_, refl, ap, _∙_}
 use mathlib.Core.Bool.{Bool, true, false, cond}
-use Prim.Native.Nat.{ℕ, zero, suc, _+_, _*_, _/_, _≤_, _<_, zero-le}
-use native.Mathlib.Nat.{mul-le-mul-left, mul-le-mul, le-refl}
+use Prim.Native.Nat.{ℕ, zero, suc, _+_, _*_, _≤_, _<_}
+use native.Mathlib.Nat.{mul-le-mul-left, mul-le-mul}
 use native.Mathlib.Omega.{arith}
 use lib.Dec.{eqb, lit≤}
-use borrow.Author.Tests.{ne-eqb, eqb-true}
 use Rattle.meaning.specs.Wire.{tenOctets, extraOctets, wireTime}
 
 -- one of the five times, or 0
@@ -43,7 +41,9 @@ pub wire-pos : (rate octets : ℕ) → 1 ≤ rate → rate ≤ 5 → 0 < wireTim
 unfolding extraOctets
 wire-pos rate octets lo hi =
     let r = wire-rounds-up rate octets in
-    omega (arith, r .0, mul-le-mul {n₁ = 1} {m₁ = 8} {n₂ = octets + 8} {m₂ = tenOctets rate} (omega arith) (ten-at-least rate lo hi))
+    let ten = ten-at-least rate lo hi in
+    let least = mul-le-mul {n₁ = 1} {m₁ = 8} {n₂ = octets + 8} {m₂ = tenOctets rate} (omega arith) ten in
+    omega (arith, r .0, least)
 
 pub wire-at-most : (rate octets : ℕ) → wireTime rate octets ≤ (octets + extraOctets) * 800
 wire-at-most rate octets =

@@ -1,5 +1,5 @@
 -- Document 01, "The plan's bytes": fields, the reader and the writer.
-use mathlib.Core.Bool.{Bool, not, cond}
+use mathlib.Core.Bool.{not, cond}
 use mathlib.Core.List.{List, [], _∷_, _++_, map}
 use Prim.Native.Nat.{ℕ, zero, suc, _+_, _*_, _/_, _%_}
 use lib.ListN.{length, take, drop}
@@ -56,7 +56,8 @@ valueOf (streamField j) =
 unfoldable pub fieldOf : ℕ → List ℕ → Field
 fieldOf tag v =
     cond (eqb tag 1)
-    (portField (record { rate = numberAt 0 1 v; cycle = numberAt 1 4 v; guard = numberAt 5 4 v; header = numberAt 9 4 v }))
+    (portField
+    (record { rate = numberAt 0 1 v; cycle = numberAt 1 4 v; guard = numberAt 5 4 v; header = numberAt 9 4 v }))
     (cond (eqb tag 2)
     (slotField (record { start = numberAt 0 4 v; end = numberAt 4 4 v }))
     (streamField

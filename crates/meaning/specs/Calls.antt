@@ -1,5 +1,5 @@
 -- Document 01, "What is refused": every call, its refusals in the paper's order.
-use mathlib.Core.Bool.{Bool, true, false, not, cond, _&&_}
+use mathlib.Core.Bool.{Bool, not, cond, _&&_}
 use mathlib.Core.List.{List, [], _∷_}
 use mathlib.Core.Option.{Option, none, some}
 use Prim.Native.Nat.{ℕ}
@@ -11,28 +11,10 @@ use Rattle.meaning.specs.declared.Slot.{Slot}
 use Rattle.meaning.specs.declared.Stream.{Stream}
 use Rattle.meaning.specs.declared.Run.{Run}
 use Rattle.meaning.specs.declared.Stair.{Stair}
-use Rattle.meaning.specs.declared.Refusal.the-variants.{
-  OutOfTurn,
-  OutOfRange,
-  Overlap,
-  Full,
-  IdHeld,
-  NotHeld,
-  NoFreeCell,
-  Endless,
-  Late,
-  OverHorizon,
-}
-use Rattle.meaning.specs.Ranges.{
-  horizon,
-  mostSlots,
-  mostStreams,
-  octetLimit,
-  portRanges,
-  slotRanges,
-  streamRanges,
-  inRange,
-}
+use Rattle.meaning.specs.declared.Refusal.the-variants.{OutOfTurn, OutOfRange, Overlap, Full, IdHeld, NotHeld}
+use Rattle.meaning.specs.declared.Refusal.the-variants.{NoFreeCell, Endless, Late, OverHorizon}
+use Rattle.meaning.specs.Ranges.{horizon, mostSlots, mostStreams, octetLimit, portRanges, slotRanges}
+use Rattle.meaning.specs.Ranges.{streamRanges, inRange}
 use Rattle.meaning.specs.Runs.{gateOf, hasFree, runs}
 use Rattle.meaning.specs.Interference.{interference, stairs}
 use Rattle.meaning.specs.Response.{others, lowerWire, bound, late}

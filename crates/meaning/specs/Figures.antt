@@ -15,16 +15,8 @@ use Rattle.meaning.specs.Wire.{wireTime}
 use Rattle.meaning.specs.Interference.{interference}
 use Rattle.meaning.specs.Response.{window, response}
 use Rattle.meaning.specs.Refusals.{accepted, refused}
-use Rattle.meaning.specs.Desks.{Desk, bare, opened}
-use Rattle.meaning.specs.Calls.{
-  openPort,
-  addSlot,
-  askRuns,
-  askStairs,
-  askInterference,
-  askResponse,
-  boundOf,
-}
+use Rattle.meaning.specs.Desks.{Desk, opened}
+use Rattle.meaning.specs.Calls.{addSlot, askRuns, askStairs, askInterference, askResponse, boundOf}
 use Rattle.meaning.specs.Bytes.{readPlan, read, refusedAt, writePlan}
 
 abbrev pub slot : ℕ → ℕ → Slot

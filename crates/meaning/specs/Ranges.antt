@@ -1,5 +1,5 @@
--- Document 01, "Ranges": a row of tests for each field, in field order. A field is in range where every test of its row holds.
-use mathlib.Core.Bool.{Bool, true, false, _&&_}
+-- Document 01, "Ranges": a row of tests for each field, in field order; a field is in range where each of them holds.
+use mathlib.Core.Bool.{Bool, _&&_}
 use mathlib.Core.List.{List, [], _∷_}
 use Prim.Native.Nat.{ℕ}
 use lib.Dec.{leb, ltb}

@@ -3,22 +3,9 @@ use mathlib.Core.Bool.{Bool, cond}
 use mathlib.Core.List.{List, [], _∷_}
 use Prim.Native.Nat.{ℕ}
 use Rattle.meaning.specs.declared.Refusal.{Refusal}
-use Rattle.meaning.specs.declared.Refusal.the-variants.{
-  CutShort,
-  UnknownTag,
-  WrongLength,
-  OutOfTurn,
-  OutOfRange,
-  Overlap,
-  Full,
-  IdHeld,
-  NotHeld,
-  NoFreeCell,
-  NoRoom,
-  Endless,
-  Late,
-  OverHorizon,
-}
+use Rattle.meaning.specs.declared.Refusal.the-variants.{CutShort, UnknownTag, WrongLength, OutOfTurn}
+use Rattle.meaning.specs.declared.Refusal.the-variants.{OutOfRange, Overlap, Full, IdHeld, NotHeld, NoFreeCell}
+use Rattle.meaning.specs.declared.Refusal.the-variants.{NoRoom, Endless, Late, OverHorizon}
 
 -- "No."
 unfoldable pub numberOf : Refusal → ℕ

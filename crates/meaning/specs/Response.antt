@@ -1,7 +1,7 @@
 -- Document 01, "Response bound".
 use mathlib.Core.Bool.{Bool, not}
 use mathlib.Core.List.{List}
-use mathlib.Core.Option.{Option, none, some, Option·map, Option·getD}
+use mathlib.Core.Option.{Option, Option·map, Option·getD}
 use Prim.Native.Nat.{ℕ, _+_, _-_, _*_}
 use lib.Dec.{leb, ltb, eqb}
 use Rattle.laws.specs.Lists.{keep, total, largest}

@@ -1,7 +1,6 @@
 -- The rate code's cases.
 -- Assumes nothing.
 use mathlib.Core.Path.{_≡_, refl, sym, ap, _∙_}
-use mathlib.Core.Logic.{by-cases}
 use mathlib.Core.Bool.{Bool, true, false, cond, _&&_}
 use Prim.Native.Nat.{ℕ, zero, suc, _+_, _*_, _/_, _≤_, _<_}
 use native.Mathlib.Nat.{mul-le-mul}
@@ -11,7 +10,6 @@ use borrow.Author.Tests.{lt-leb}
 use Rattle.meaning.specs.Ranges.{within}
 use Rattle.meaning.specs.Wire.{tenOctets, extraOctets, wireTime}
 use Rattle.meaning.proofs.Wires.{ten-at-most}
-use Rattle.wire.specs.declared.Timing.{Timing}
 use Rattle.wire.specs.declared.Timing.the-variants.{Time, UnknownRate}
 use Rattle.wire.specs.Timing.{timed}
 

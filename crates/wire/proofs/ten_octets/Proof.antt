@@ -1,7 +1,6 @@
 use Rattle.meaning.specs.Wire.{tenOctets}
 use Rattle.wire.specs.Timing.{timed}
 use Rattle.wire.proofs.Rates.{listed, unlisted}
-use borrow.Author.Needs.{needs}
 use Rattle.wire.proofs.ten_octets.Statement.{statement}
 use Rattle.wire.proofs.ten_octets.Tie as tie
 use Rattle.wire.proofs.ten_octets.Reads as reads
