@@ -30,6 +30,11 @@ met n rs s d = total (λ r. cond (leb (dist n s (r .start)) d) (r .len) 0) rs
 below-tail : {n : ℕ} {r : Run} {rs : List Run} → Below n (r ∷ rs) → Below n rs
 below-tail h q m = h q (List·Memᴰ·tail m)
 
+-- a stretch of length 0 holds the whole of a run that starts at its one instant
+pub count-at-once : (n : ℕ) (rs : List Run) (s : ℕ) → count n rs s 0 ≡ lenAt rs ((s + 0) % n)
+unfolding count sum
+count-at-once n rs s = zero-add (lenAt rs ((s + 0) % n))
+
 -- one round holds every run once
 pub sum-lenAt : (n : ℕ) (rs : List Run) → Below n rs → sum n (lenAt rs) ≡ allLen rs
 unfolding lenAt allLen total
