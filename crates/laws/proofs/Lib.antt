@@ -6,3 +6,4 @@ pub mod Inserting
 pub mod Joining
 pub mod Numbers
 pub mod Leasts
+pub mod Rows

@@ -2,8 +2,8 @@
 use mathlib.Core.Bool.{Bool, true, false, cond, _&&_, _||_}
 use mathlib.Core.List.{List, [], _∷_, _++_, List·Memᴰ}
 use mathlib.Core.Option.{Option, none, some}
-use Prim.Native.Nat.{ℕ, _+_, _-_, _<_, max}
-use lib.ListN.{length, replicate}
+use Prim.Native.Nat.{ℕ, suc, _+_, _-_, _<_, max}
+use lib.ListN.{length, take, drop, replicate}
 use lib.Dec.{ltb}
 
 module _ {A : Type 0} where
@@ -50,6 +50,15 @@ module _ {A : Type 0} where
   abbrev pub RisingBy : (A → ℕ) → List A → Type 0
   RisingBy key [] = Unit {0}
   RisingBy key (x ∷ xs) = ((y : A) → Mem y xs → key x < key y) × RisingBy key xs
+
+  -- the place of the first that passes the test, the length with none
+  unfoldable pub placeBy : (A → Bool) → List A → ℕ
+  placeBy p [] = 0
+  placeBy p (x ∷ xs) = cond (p x) 0 (suc (placeBy p xs))
+
+  -- all but the one at place k
+  unfoldable pub without : ℕ → List A → List A
+  without k xs = take k xs ++ drop (suc k) xs
 
   -- a row of n places that begins with xs, and z in the places left
   unfoldable pub filled : ℕ → A → List A → List A

@@ -40,7 +40,7 @@ pub record Covering (g : Gate) (ss : List Slot) : Type 0 where
 abbrev pub Covers : Stair → Stair → Type 0
 Covers q p = (q .far ≤ p .far) × (p .total ≤ q .total)
 
--- the stairs of some pairs, for a loop: rising in both, each one of the pairs, each pair covered by a member
+-- the stairs of some pairs, by what they do: rising in both, each one of the pairs, each pair covered by a member
 pub record IsStairs (ps st : List Stair) : Type 0 where
   pub far-rises : RisingBy (λ x. x .far) st
   pub total-rises : RisingBy (λ x. x .total) st
