@@ -7,3 +7,5 @@ pub mod Joining
 pub mod Numbers
 pub mod Leasts
 pub mod Rows
+pub mod Without
+pub mod Shifting
