@@ -9,7 +9,8 @@ use native.Mathlib.Nat.{le-refl, zero-add, sub-zero, zero-sub, suc-sub-suc}
 use native.Mathlib.Omega.{arith}
 use lib.ListN.{length, getD, take, drop, set, replicate, length-append, length-take, length-drop, take-append-drop}
 use lib.ListN.{drop-of-length-le, List·getD-append}
-use lib.Seq.{length-take-le, take-suc, split-at, drop-cons, take-append-le, drop-append-le, drop-append-add, take-take}
+use lib.Seq.{length-take-le, take-suc, split-at, drop-cons, take-append-le, drop-append-le, drop-append-add}
+use lib.Seq.{take-take}
 use lib.Seq.{set-at, getD-take, getD-drop, getD-append-add}
 use lib.Dec.{ltb}
 use Rattle.laws.specs.Lists.{any, insertBy, placeBy, without, filled}

@@ -43,7 +43,7 @@ use Rattle.meaning.proofs.ChainFree.{free-has-run}
 use Rattle.meaning.proofs.Interferences.{interference-law}
 use Rattle.meaning.proofs.Gates.{slots-below, slots-grow}
 use Rattle.meaning.proofs.Plans.{plan-length, write-says}
-use Rattle.meaning.proofs.Readings.{written-reads-back}
+use Rattle.meaning.proofs.ReadBack.{written-reads-back}
 use Rattle.meaning.proofs.Responses.{window-some, bound-some, response-some, busy-mono, wait-mono}
 
 -- ---- the form of V that computes

@@ -10,3 +10,4 @@ pub mod Calls
 pub mod Bytes
 pub mod Promises
 pub mod Figures
+pub mod Plans
