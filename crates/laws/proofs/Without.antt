@@ -31,6 +31,14 @@ module _ {A : Type 0} where
   mem-get-take n xs i d h l =
       rw (getD-take n xs i d h) at (mem-get (take n xs) i d (omega (arith, length-take-le n xs l)))
 
+  -- where a list rises, what stands later has the larger key
+  pub rising-at : (key : A → ℕ) (xs : List A) (d : A) → RisingBy key xs → (i j : ℕ) → i < j → j < length xs
+      → key (getD xs i d) < key (getD xs j d)
+  rising-at key [] d r i j h l = absurd (omega arith)
+  rising-at key (x ∷ xs) d r i zero h l = absurd (omega arith)
+  rising-at key (x ∷ xs) d r zero (suc j) h l = r .0 (getD xs j d) (mem-get xs j d (omega arith))
+  rising-at key (x ∷ xs) d r (suc i) (suc j) h l = rising-at key xs d (r .1) i j (omega arith) (omega arith)
+
   -- ---- without a place
 
   -- a place past the end leaves nothing out

@@ -20,7 +20,7 @@ use Rattle.meaning.proofs.Windows.{covering}
 use Rattle.meaning.proofs.Gates.{slots-stairway, slots-by-stairs}
 use Rattle.table.specs.Lookup.{stairsIn, allIn, TableFits, DemandThree}
 use Rattle.laws.proofs.Rows.{filled-length}
-use Rattle.table.proofs.Rows.{rows-long, last-all, rows-rise, rows-hold}
+use Rattle.table.proofs.Stored.{rows-long, last-all, rows-rise, rows-hold}
 
 -- at most 32 runs, at most 993 stairs
 pub stairs-few : (g : Gate) (ss : List Slot) → length (runs g ss) ≤ 32 → length (stairs g ss) ≤ 993

@@ -3,9 +3,9 @@
 use Prim.Native.Nat.{_+_, _-_, _/_}
 use native.Mathlib.Omega.{arith}
 use borrow.Author.Needs.{needs}
-use Rattle.table.proofs.Search.{Narrowed, search-starts, search-up, search-down, search-ends}
-use Rattle.table.proofs.find.Statement.{statement}
-use Rattle.table.proofs.find.Tie as tie
+use Rattle.table.proofs.Halving.{Narrowed, search-starts, search-up, search-down, search-ends}
+use Rattle.table.proofs.search.find.Statement.{statement}
+use Rattle.table.proofs.search.find.Tie as tie
 
 abbrev Inv-loop : tie.InvT-loop
 Inv-loop far n u lo₀ hi₀ lo hi = Narrowed far n u lo hi

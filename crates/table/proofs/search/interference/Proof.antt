@@ -4,9 +4,9 @@ use Prim.Native.Nat.{_*_, _/_, _%_, _≤_}
 use native.Mathlib.Nat.{div-le-self}
 use native.Mathlib.Omega.{arith}
 use borrow.Author.Needs.{needs}
-use Rattle.table.proofs.Search.{reached-at-most, answer-is, product-fits}
-use Rattle.table.proofs.interference.Statement.{statement}
-use Rattle.table.proofs.interference.Tie as tie
+use Rattle.table.proofs.Halving.{reached-at-most, answer-is, product-fits}
+use Rattle.table.proofs.search.interference.Statement.{statement}
+use Rattle.table.proofs.search.interference.Tie as tie
 
 rem-find : tie.Need-rem-find
 rem-find c = search needs

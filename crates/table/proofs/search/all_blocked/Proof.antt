@@ -2,9 +2,9 @@
 -- Assumes nothing.
 use native.Mathlib.Omega.{arith}
 use borrow.Author.Needs.{needs}
-use Rattle.table.proofs.Rows.{all-none, all-some}
-use Rattle.table.proofs.all_blocked.Statement.{statement}
-use Rattle.table.proofs.all_blocked.Tie as tie
+use Rattle.table.proofs.Stored.{all-none, all-some}
+use Rattle.table.proofs.search.all_blocked.Statement.{statement}
+use Rattle.table.proofs.search.all_blocked.Tie as tie
 
 returns : tie.Need-returns
 returns c = all-none (c .before .args .tot .now) (c .before .args .n) (omega arith)
