@@ -9,3 +9,4 @@ pub mod Leasts
 pub mod Rows
 pub mod Without
 pub mod Shifting
+pub mod Filling

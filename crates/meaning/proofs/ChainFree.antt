@@ -81,7 +81,7 @@ abbrev Wide : ℕ → List ℕ → Type 0
 Wide k xs = (x : ℕ) × Mem x xs × (k < x)
 
 -- around the circle the last slot before the gap ends last
-gap-last : (g : Gate) (e : ℕ) (pre : List Slot) (y : Slot) (post : List Slot)
+pub gap-last : (g : Gate) (e : ℕ) (pre : List Slot) (y : Slot) (post : List Slot)
     → lastEnd e (behind g (pre ++ y ∷ []) post) ≡ y .end + g .cycle
 unfolding lastEnd
 gap-last g e pre y post =

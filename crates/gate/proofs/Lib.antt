@@ -1,0 +1,5 @@
+pub mod Places
+pub mod Rows
+pub mod Walks
+pub mod Hangs
+pub mod Turns
