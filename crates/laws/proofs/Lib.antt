@@ -10,3 +10,4 @@ pub mod Rows
 pub mod Without
 pub mod Shifting
 pub mod Filling
+pub mod Commuting

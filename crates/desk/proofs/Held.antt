@@ -1,0 +1,41 @@
+-- A desk of document 01 and its one struct: each is found again from the other, and what is sound is fit.
+-- Assumes nothing.
+use mathlib.Core.Path.{_≡_, refl, sym, ap, subst, _∙_}
+use mathlib.Core.Bool.{true, false}
+use mathlib.Core.List.{List}
+use lib.ListN.{length, take}
+use Rattle.laws.proofs.Rows.{filled-take}
+use Rattle.meaning.specs.declared.Slot.{Slot}
+use Rattle.meaning.specs.declared.Stream.{Stream}
+use Rattle.meaning.specs.Desks.{bare, opened, SameDesk}
+use Rattle.meaning.specs.Desks.{Desk as Plan}
+use Rattle.meaning.specs.Promises.{SoundDesk}
+use Rattle.meaning.proofs.Sounds.{same-desk, sound-bare}
+use Rattle.rows.specs.Rows.{slotRow, streamRow, noSlot, noStream}
+use Rattle.desk.specs.declared.Desk.{Desk}
+use Rattle.desk.specs.Desks.{filledDesk, deskOf, held, Fit}
+
+-- the struct of a desk holds that desk
+pub held-of : (e : Plan) → held (deskOf e) ≡ e
+unfolding held deskOf filledDesk slotRow streamRow
+held-of bare = refl
+held-of (opened p ss js) = λ i. opened p (filled-take 32 noSlot ss i) (filled-take 64 noStream js i)
+
+-- the struct of a sound desk may be handed to any call
+pub fit-of : (e : Plan) → SoundDesk e → Fit (deskOf e)
+fit-of e s =
+    record {
+      sound = subst SoundDesk (sym (held-of e)) s;
+      canonical = ap deskOf (sym (held-of e));
+    }
+
+pub fit-bare : Fit (deskOf bare)
+fit-bare = fit-of bare sound-bare
+
+-- fit desks that hold the same desk are one struct: order of entry and freed places do not show
+pub fit-unique : (d e : Desk) → Fit d → Fit e → held d ≡ held e → d ≡ e
+fit-unique d e f g h = f .canonical ∙ ap deskOf h ∙ sym (g .canonical)
+
+-- "the same desk" of document 01 is equality of the structs
+pub same-struct : (d e : Desk) → Fit d → Fit e → SameDesk (held d) (held e) → d ≡ e
+same-struct d e f g h = fit-unique d e f g (same-desk (held d) (held e) .0 h)

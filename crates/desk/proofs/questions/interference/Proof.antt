@@ -1,0 +1,43 @@
+-- `desk::interference` meets its contract: the stairs stored in a fit open desk give V, and t is at most the horizon.
+-- Assumes nothing.
+use borrow.Author.Needs.{needs}
+use Rattle.meaning.specs.Ranges.{horizon}
+use Rattle.meaning.specs.Runs.{gateOf}
+use Rattle.desk.proofs.OpenFits.{open-fits}
+use Rattle.desk.proofs.Asking.{figure-closed, figure-over, figure-open}
+use Rattle.desk.proofs.questions.interference.Statement.{statement}
+use Rattle.desk.proofs.questions.interference.Tie as tie
+
+returns : tie.Need-returns
+unfolding horizon
+returns c =
+    let t = c .before in
+    let s = t .before in
+    (figure-over (s .args .t1) (s .pre) (s .args .t) (t .if1 .taken) (c .if2 .taken), s .pre)
+
+cast-interference : tie.Need-cast-interference
+cast-interference c = search needs
+
+interference-requires : tie.Need-interference-requires
+unfolding gateOf
+interference-requires c κs =
+    let t = c .before .before .before .before in
+    let s = t .before in
+    open-fits (s .args .t1) (s .pre) (t .if1 .taken) .table-fits
+
+returns-2 : tie.Need-returns-2
+unfolding horizon
+returns-2 c =
+    let e = c .before .before .before .before in
+    let t = e .before in
+    let s = t .before in (
+      figure-open (s .args .t1) (s .pre) (s .args .t) (t .if1 .taken) (e .if2 .left) _ (c .interference .ensures),
+      s .pre,
+    )
+
+returns-3 : tie.Need-returns-3
+returns-3 c = let s = c .before in (figure-closed (s .args .t1) (s .pre) (s .args .t) (c .if1 .left), s .pre)
+
+pub interference-spec : {M : Type 1} → statement M
+interference-spec =
+    tie.close (tie.spec returns cast-interference interference-requires returns-2 returns-3)

@@ -1,0 +1,140 @@
+-- The desk struct: what it holds, when it is fit, and how the meaning of a call is handed back.
+use mathlib.Core.Path.{_≡_}
+use mathlib.Core.Bool.{Bool, true, false, cond}
+use mathlib.Core.List.{List, []}
+use Prim.Native.Nat.{ℕ}
+use lib.ListN.{length, take}
+use Rattle.meaning.specs.declared.Port.{Port}
+use Rattle.meaning.specs.declared.Gate.{Gate}
+use Rattle.meaning.specs.declared.Slot.{Slot}
+use Rattle.meaning.specs.declared.Stream.{Stream}
+use Rattle.meaning.specs.declared.Run.{Run}
+use Rattle.meaning.specs.declared.Stair.{Stair}
+use Rattle.meaning.specs.declared.Refusal.{Refusal}
+use Rattle.meaning.specs.Runs.{gateOf}
+use Rattle.meaning.specs.Interference.{stairs}
+use Rattle.meaning.specs.Refusals.{Answer, accepted, refused, numberOf, valuesOf}
+use Rattle.meaning.specs.Desks.{bare, opened, Reply}
+use Rattle.meaning.specs.Desks.{Desk as Plan}
+use Rattle.meaning.specs.Promises.{SoundDesk}
+use Rattle.rows.specs.Rows.{slotRow, streamRow}
+use Rattle.gate.specs.declared.RunRow.{RunRow}
+use Rattle.gate.specs.Rows.{runRow}
+use Rattle.table.specs.declared.Table.{Table}
+use Rattle.table.specs.Rows.{tableOf}
+use Rattle.desk.specs.declared.Desk.{Desk}
+use Rattle.desk.specs.declared.PortNumbers.{PortNumbers}
+use Rattle.desk.specs.declared.StreamNumbers.{StreamNumbers}
+use Rattle.desk.specs.declared.Verdict.{Verdict}
+use Rattle.desk.specs.declared.Verdict.the-variants as Verdicts
+use Rattle.desk.specs.declared.Figure.{Figure}
+use Rattle.desk.specs.declared.Figure.the-variants as Figures
+use Rattle.desk.specs.declared.EditReply.{EditReply}
+use Rattle.desk.specs.declared.FigureReply.{FigureReply}
+use Rattle.desk.specs.declared.RunsReply.{RunsReply}
+use Rattle.desk.specs.declared.StairsReply.{StairsReply}
+
+-- ---- the struct and what it holds
+
+-- the caller's numbers as document 01's records
+abbrev pub portOf : PortNumbers → Port
+portOf p = record { rate = p .rate; cycle = p .cycle; guard = p .guard; header = p .header }
+
+abbrev pub slotOf : ℕ → ℕ → Slot
+slotOf start end = record { start = start; end = end }
+
+abbrev pub streamOf : StreamNumbers → Stream
+streamOf j =
+    record {
+      id = j .id;
+      priority = j .priority;
+      octets = j .octets;
+      period = j .period;
+      jitter = j .jitter;
+      deadline = j .deadline;
+    }
+
+-- the struct with these numbers, slots, streams and stairs
+unfoldable pub filledDesk : Bool → Port → List Slot → List Stream → List Stair → Desk
+filledDesk isOpen p ss js st =
+    record {
+      opened = isOpen;
+      rate = p .rate;
+      cycle = p .cycle;
+      guard = p .guard;
+      header = p .header;
+      nslots = length ss;
+      slots = slotRow ss;
+      nstreams = length js;
+      streams = streamRow js;
+      nstairs = length st;
+      far = tableOf st .far;
+      tot = tableOf st .tot;
+    }
+
+-- the one struct of a desk of document 01: what is held stands in front, and everything else is zero
+unfoldable pub deskOf : Plan → Desk
+deskOf bare = filledDesk false (record { rate = 0; cycle = 0; guard = 0; header = 0 }) [] [] []
+deskOf (opened p ss js) = filledDesk true p ss js (stairs (gateOf p js) ss)
+
+-- what an open struct holds
+abbrev pub portIn : Desk → Port
+portIn d = record { rate = d .rate; cycle = d .cycle; guard = d .guard; header = d .header }
+
+abbrev pub slotsIn : Desk → List Slot
+slotsIn d = take (d .nslots) (d .slots)
+
+abbrev pub streamsIn : Desk → List Stream
+streamsIn d = take (d .nstreams) (d .streams)
+
+-- the gate numbers in force
+abbrev pub gateIn : Desk → Gate
+gateIn d = gateOf (portIn d) (streamsIn d)
+
+-- the desk of document 01 that a struct holds
+unfoldable pub held : Desk → Plan
+held d =
+    cond (d .opened) (opened (portIn d) (slotsIn d) (streamsIn d)) bare
+
+-- a desk that a call may be handed: it holds a sound desk, and is the one struct of it
+pub record Fit (d : Desk) : Type 0 where
+  pub sound : SoundDesk (held d)
+  pub canonical : d ≡ deskOf (held d)
+
+-- ---- replies
+
+abbrev pub verdictOf : {A : Type 0} → Answer A → Verdict
+verdictOf (accepted a) = Verdicts.Accepted
+verdictOf (refused r) = Verdicts.Refused r
+
+abbrev pub figureOf : Answer ℕ → Figure
+figureOf (accepted x) = Figures.Is x
+figureOf (refused r) = Figures.Refused r
+
+-- the rows asked for, none on a refusal
+abbrev pub rowsOf : {A : Type 0} → Answer (List A) → List A
+rowsOf (accepted xs) = xs
+rowsOf (refused r) = []
+
+abbrev pub editReply : Reply (Unit {0}) → EditReply
+editReply r = record { verdict = verdictOf (r .answer); desk = deskOf (r .desk) }
+
+abbrev pub figureReply : Reply ℕ → FigureReply
+figureReply r = record { figure = figureOf (r .answer); desk = deskOf (r .desk) }
+
+abbrev pub runsReply : Reply (List Run) → RunsReply
+runsReply r = record { verdict = verdictOf (r .answer); runs = runRow (rowsOf (r .answer)); desk = deskOf (r .desk) }
+
+abbrev pub stairsReply : Reply (List Stair) → StairsReply
+stairsReply r =
+    record { verdict = verdictOf (r .answer); stairs = tableOf (rowsOf (r .answer)); desk = deskOf (r .desk) }
+
+-- ---- document 01's number of an answer, 0 where it is accepted, and the values it carries
+
+unfoldable pub verdictNumber : Verdict → ℕ
+verdictNumber Verdicts.Accepted = 0
+verdictNumber (Verdicts.Refused r) = numberOf r
+
+unfoldable pub figureNumber : Figure → ℕ
+figureNumber (Figures.Is x) = 0
+figureNumber (Figures.Refused r) = numberOf r
