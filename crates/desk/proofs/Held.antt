@@ -1,12 +1,7 @@
 -- A desk of document 01 and its one struct: each is found again from the other, and what is sound is fit.
 -- Assumes nothing.
 use mathlib.Core.Path.{_≡_, refl, sym, ap, subst, _∙_}
-use mathlib.Core.Bool.{true, false}
-use mathlib.Core.List.{List}
-use lib.ListN.{length, take}
 use Rattle.laws.proofs.Rows.{filled-take}
-use Rattle.meaning.specs.declared.Slot.{Slot}
-use Rattle.meaning.specs.declared.Stream.{Stream}
 use Rattle.meaning.specs.Desks.{bare, opened, SameDesk}
 use Rattle.meaning.specs.Desks.{Desk as Plan}
 use Rattle.meaning.specs.Promises.{SoundDesk}

@@ -1,14 +1,13 @@
 -- The place of the one with a key: whether some one has the key, and the list without that one.
 -- Assumes nothing.
-use mathlib.Core.Path.{_≡_, refl, sym, ap, _∙_}
+use mathlib.Core.Path.{_≡_, refl}
 use mathlib.Core.Bool.{Bool, true, false, not}
 use mathlib.Core.List.{List}
-use Prim.Native.Nat.{ℕ, _-_, _≤_, _<_}
+use Prim.Native.Nat.{ℕ, _≤_, _<_}
 use native.Mathlib.Omega.{arith}
 use lib.ListN.{length}
 use lib.Dec.{eqb}
 use Rattle.laws.specs.Lists.{keep, any, placeBy, without, RisingBy}
-use Rattle.laws.proofs.Shifting.{length-without}
 use Rattle.laws.proofs.Without.{place-held, keep-without}
 
 module _ {A : Type 0} (key : A → ℕ) (k : ℕ) (xs : List A) where

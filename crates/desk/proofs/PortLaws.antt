@@ -2,11 +2,9 @@
 -- Assumes nothing.
 use mathlib.Core.Path.{_≡_, refl, sym, ap, _∙_}
 use mathlib.Core.Bool.{true, false}
-use mathlib.Core.List.{List, []}
-use Prim.Native.Nat.{ℕ, _≤_, zero-le}
+use mathlib.Core.List.{[]}
+use Prim.Native.Nat.{zero-le}
 use native.Mathlib.Omega.{arith}
-use lib.ListN.{length}
-use Rattle.laws.proofs.Rows.{filled-none}
 use Rattle.meaning.specs.declared.Port.{Port}
 use Rattle.meaning.specs.declared.Gate.{Gate}
 use Rattle.meaning.specs.declared.Refusal.the-variants.{OutOfTurn, OutOfRange}
@@ -14,7 +12,7 @@ use Rattle.meaning.specs.Ranges.{portRanges, inRange}
 use Rattle.meaning.specs.Runs.{gateOf}
 use Rattle.meaning.specs.Interference.{stairs}
 use Rattle.meaning.specs.Refusals.{accepted, refused}
-use Rattle.meaning.specs.Desks.{bare, opened}
+use Rattle.meaning.specs.Desks.{opened}
 use Rattle.meaning.specs.Calls.{openPort}
 use Rattle.meaning.proofs.Conditions.{open-says}
 use Rattle.meaning.proofs.ChainFree.{runs-few}

@@ -10,17 +10,14 @@ use Rattle.meaning.specs.declared.Slot.{Slot}
 use Rattle.meaning.specs.declared.Stream.{Stream}
 use Rattle.meaning.specs.declared.Run.{Run}
 use Rattle.meaning.specs.declared.Stair.{Stair}
-use Rattle.meaning.specs.declared.Refusal.{Refusal}
 use Rattle.meaning.specs.Runs.{gateOf}
 use Rattle.meaning.specs.Interference.{stairs}
-use Rattle.meaning.specs.Refusals.{Answer, accepted, refused, numberOf, valuesOf}
+use Rattle.meaning.specs.Refusals.{Answer, accepted, refused, numberOf}
 use Rattle.meaning.specs.Desks.{bare, opened, Reply}
 use Rattle.meaning.specs.Desks.{Desk as Plan}
 use Rattle.meaning.specs.Promises.{SoundDesk}
 use Rattle.rows.specs.Rows.{slotRow, streamRow}
-use Rattle.gate.specs.declared.RunRow.{RunRow}
 use Rattle.gate.specs.Rows.{runRow}
-use Rattle.table.specs.declared.Table.{Table}
 use Rattle.table.specs.Rows.{tableOf}
 use Rattle.desk.specs.declared.Desk.{Desk}
 use Rattle.desk.specs.declared.PortNumbers.{PortNumbers}

@@ -2,14 +2,12 @@
 use mathlib.Core.Path.{_≡_}
 use mathlib.Core.List.{List, [], _∷_}
 use Prim.Native.Nat.{ℕ, _≤_}
-use lib.ListN.{take}
 use Rattle.meaning.specs.declared.Port.{Port}
-use Rattle.meaning.specs.declared.Gate.{Gate}
 use Rattle.meaning.specs.declared.Slot.{Slot}
 use Rattle.meaning.specs.declared.Stream.{Stream}
 use Rattle.meaning.specs.declared.Stair.{Stair}
 use Rattle.meaning.specs.Ranges.{horizon}
-use Rattle.meaning.specs.Runs.{gateOf, runs}
+use Rattle.meaning.specs.Runs.{runs}
 use Rattle.meaning.specs.Interference.{byStairs, stairs}
 use Rattle.meaning.specs.Refusals.{Answer, accepted}
 use Rattle.meaning.specs.Desks.{bare, edited}

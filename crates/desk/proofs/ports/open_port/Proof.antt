@@ -5,7 +5,6 @@ use mathlib.Core.List.{[]}
 use borrow.Author.Needs.{needs}
 use borrow.Author.Tests.{not-true, not-false}
 use Rattle.meaning.specs.Desks.{opened}
-use Rattle.meaning.specs.Calls.{openPort}
 use Rattle.meaning.proofs.Sounds.{open-sound}
 use Rattle.desk.specs.Desks.{held, portOf}
 use Rattle.desk.specs.Edits.{accepting}

@@ -1,8 +1,7 @@
 -- `desk::slots::add_slot` meets its contract: what was held gets its stairs, and what was refused stays refused.
 -- Assumes nothing.
-use mathlib.Core.Path.{_≡_, ap, _∙_}
+use mathlib.Core.Path.{ap, _∙_}
 use borrow.Author.Needs.{needs}
-use Rattle.meaning.specs.Calls.{addSlot}
 use Rattle.desk.specs.Desks.{held, slotOf}
 use Rattle.desk.specs.Edits.{accepting}
 use Rattle.desk.proofs.Opened.{fit-but-stairs}

@@ -1,0 +1,99 @@
+-- From a busy window and the largest response of the frames that are enough to the response bound.
+-- Assumes nothing.
+use mathlib.Core.Path.{_≡_, sym, ap, _∙_}
+use mathlib.Core.Logic.{_⊎_, inl, inr, ⊎-elim}
+use mathlib.Core.List.{List}
+use mathlib.Core.Option.{some}
+use Prim.Native.Nat.{ℕ, _+_, _-_, _≤_, _<_, zero-le}
+use native.Mathlib.Omega.{arith}
+use lib.ListN.{replicate, getD-replicate}
+use Rattle.laws.specs.Numbers.{Least, Mono}
+use Rattle.meaning.specs.declared.Stream.{Stream}
+use Rattle.meaning.specs.Ranges.{horizon}
+use Rattle.meaning.specs.Arrivals.{mostIn}
+use Rattle.meaning.specs.Response.{busyLoad, boundIn, bound}
+use Rattle.meaning.proofs.Arrivals.{counted, most-grows}
+use Rattle.meaning.proofs.Responses.{endless-iff, bound-some}
+use Rattle.meaning.proofs.FewFrames.{Enough, few-frames}
+use Rattle.bound.specs.declared.Response.the-variants.{Within, Endless}
+use Rattle.bound.specs.Rows.{rowStream, RowIn, RowsFit}
+use Rattle.bound.specs.Searches.{rowBusy, Settled}
+use Rattle.bound.specs.Answers.{responseOf, Beside, BesideIn, EnoughOf, WorstFor, BoundFor}
+use Rattle.bound.proofs.RowStreams.{most-own, busy-rows, calm-rows, later-own}
+
+-- ---- a row without jitter
+
+pub zeros-in : (n : ℕ) → n ≤ 64 → RowIn 0 0 (replicate 64 0) n
+zeros-in n h k l = (zero-le, omega (arith, getD-replicate {A = ℕ} 64 k 0 0 (omega arith)))
+
+pub calm-fits : (per jit cost calm : List ℕ) (n : ℕ) → RowsFit per jit cost n → RowIn 0 0 calm n → RowsFit per calm cost n
+calm-fits per jit cost calm n fit none =
+    record {
+      few = fit .few;
+      periods = fit .periods;
+      jitters = λ k h. (zero-le, omega (arith, none k h .1));
+      costs = fit .costs;
+    }
+
+-- ---- the answer
+
+module _ (v : ℕ → ℕ) (l c period jitter : ℕ) (per jit cost : List ℕ) (n : ℕ) where
+  -- V(0) is over the horizon
+  pub endless-first : Mono v → 100_000_000 < v 0 → BoundFor v l c period jitter per jit cost n Endless
+  unfolding responseOf horizon busyLoad
+  endless-first v-grows h s =
+      ap responseOf
+      (sym (endless-iff (s .rate) v l (s .rest) (s .own) .1 (λ x soon closed. omega (arith, v-grows 0 x zero-le))))
+
+  module _ (b : ℕ) (busy : Settled (rowBusy v per jit cost n l c period jitter) b) where
+    -- no busy window up to the horizon
+    pub endless-window : 100_000_000 < b → BoundFor v l c period jitter per jit cost n Endless
+    unfolding responseOf horizon
+    endless-window h s =
+        ap responseOf
+        (sym (endless-iff (s .rate) v l (s .rest) (s .own) .1
+        (λ x soon. rw (busy-rows v c period jitter per jit cost n s l) at (busy .none h x soon))))
+
+    module _ (soon : b ≤ 100_000_000) (long : 10_000 ≤ period) (all few : ℕ)
+        (all-is : all ≡ mostIn (rowStream period jitter) b + 1 - mostIn (rowStream period jitter) 0) (some-few : few ≤ all) where
+      module _ (s : Beside c period jitter per jit cost n) where
+        own-pos : 0 < s .own .period
+        own-pos = omega (arith, s .period-is)
+
+        window-least : Least (busyLoad (s .rate) v l (s .rest) (s .own)) b
+        window-least = rw (busy-rows v c period jitter per jit cost n s l) at (busy .least soon)
+
+        -- all frames from the last that can come at 0 on
+        all-frames : mostIn (s .own) 0 + all ≡ mostIn (s .own) b + 1
+        all-frames =
+            omega
+            (arith, all-is, most-own v c period jitter per jit cost n s 0, most-own v c period jitter per jit cost n s b,
+            most-grows (counted (s .own) own-pos) 0 b zero-le)
+
+        pub beside-in : BesideIn v l c period jitter per jit cost n few
+        beside-in =
+            record { beside = s; b = b; busy = window-least; ends = soon; inside = omega (arith, all-frames) }
+
+        enough : (calm : List ℕ) → RowIn 0 0 calm n → EnoughOf v per calm cost n c period all few
+            → Enough (s .rate) v l (s .rest) (s .own) b few
+        enough calm none (inl e) = inl (omega (arith, all-frames))
+        enough calm none (inr (z, closes, more)) =
+            inr (
+              z,
+              rw (calm-rows v c period jitter per jit cost n s calm none z) at closes,
+              rw (later-own v c period jitter per jit cost n s z) at more,
+            )
+
+      -- the largest response of the frames that are enough is the bound
+      pub bound-within : ((x y : ℕ) → v (x + y) ≤ v x + v y) → (calm : List ℕ) → RowIn 0 0 calm n
+          → EnoughOf v per calm cost n c period all few → (r : ℕ) → WorstFor v l c period jitter per jit cost n few r
+          → BoundFor v l c period jitter per jit cost n (Within r)
+      unfolding responseOf horizon beside-in
+      bound-within spreads calm none fewer r worst s =
+          let inside = beside-in s in
+          let same =
+              worst inside
+              ∙ few-frames (s .rate) v l (s .rest) (s .own) (s .some-period) (own-pos s) spreads b few (window-least s)
+              (inside .inside) (enough s calm none fewer) in
+          ap Within same
+          ∙ ap responseOf (sym (bound-some (s .rate) v l (s .rest) (s .own) b (window-least s) soon))

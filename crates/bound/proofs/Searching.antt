@@ -1,0 +1,113 @@
+-- Tries of a search over rows of streams: how large their numbers are, and that they never fall.
+-- Assumes nothing.
+use mathlib.Core.Path.{_≡_, sym, ap, ap₂, _∙_}
+use mathlib.Core.List.{List}
+use Prim.Native.Nat.{ℕ, _+_, _*_, _/_, _%_, _≤_, _<_}
+use native.Mathlib.Nat.{le-trans, add-zero, mul-le-mul, mul-le-mul-right}
+use native.Mathlib.Nat.{div-le-self, div-self, div-eq-of-lt, mod-self, mod-lt, mod-eq-of-lt}
+use native.Mathlib.Omega.{arith}
+use lib.ListN.{getD}
+use Rattle.laws.specs.Numbers.{sum, Least, Mono}
+use Rattle.laws.proofs.Sums.{sum-le}
+use Rattle.laws.proofs.Leasts.{Under, under-step, under-least, under-over}
+use Rattle.meaning.specs.Arrivals.{mostIn}
+use Rattle.meaning.specs.Interference.{byStairs, lastTotal}
+use Rattle.meaning.proofs.Arrivals.{counted, most-grows}
+use Rattle.table.specs.Lookup.{stairsIn, allIn}
+use Rattle.bound.specs.Rows.{rowStream, streamAt, rowLoad, RowsFit, RowsCounted}
+use Rattle.bound.specs.Searches.{tableV, TableBounds, rowDemand, rowBusy, Settled, Closes}
+use Rattle.bound.proofs.Counting.{rows-all}
+
+-- ---- interference
+
+module _ (cycle : ℕ) (far tot : List ℕ) (m : ℕ) (fit : TableBounds cycle far tot m) where
+  abbrev v : ℕ → ℕ
+  v = tableV cycle far tot m
+
+  -- in the cycle under way it is at most all blocked cells and V(0)
+  table-round : (t : ℕ) → v t ≤ t / cycle * allIn tot m + (allIn tot m + v 0)
+  unfolding byStairs
+  table-round t =
+      let some = fit .fits .some-cycle in
+      let low = mod-lt t some in
+      let within = fit .grows (t % cycle) cycle (omega arith) in
+      let quotient = ap (λ (q : ℕ). q * allIn tot m) (div-eq-of-lt low) in
+      let rest = ap (lastTotal 0 (stairsIn far tot m)) (mod-eq-of-lt low) in
+      let whole = ap (λ (q : ℕ). q * allIn tot m) (div-self some) in
+      let again = ap (lastTotal 0 (stairsIn far tot m)) (mod-self cycle) in
+      let none = ap (λ (q : ℕ). q * allIn tot m) (div-eq-of-lt some) in
+      let first = ap (lastTotal 0 (stairsIn far tot m)) (mod-eq-of-lt some) in
+      omega arith
+
+  -- so that it fits 64 bits with room to spare
+  pub table-most : (t : ℕ) → t ≤ 102_000_000 → v t ≤ 10_300_000_000_000_000
+  table-most t h =
+      let cycles = le-trans (div-le-self t cycle) h in
+      omega
+      (arith, table-round t, fit .all-most, fit .first-most, mul-le-mul {n₁ = t / cycle} {m₁ = allIn tot m}
+      {n₂ = 102_000_000} {m₂ = 100_000_000} cycles (fit .all-most))
+
+-- ---- tries
+
+module _ (per jit cost : List ℕ) (n : ℕ) (fit : RowsFit per jit cost n) where
+  pub row-load-mono : Mono (rowLoad per jit cost n)
+  unfolding rowLoad
+  row-load-mono x y h =
+      sum-le n _ _
+      (λ k l. mul-le-mul-right (getD cost k 0)
+      (most-grows (counted (streamAt per jit k) (omega (arith, fit .periods k l))) x y h))
+
+  module _ (v : ℕ → ℕ) (v-grows : Mono v) where
+    pub row-demand-mono : (base off : ℕ) → Mono (rowDemand v per jit cost n base off)
+    unfolding rowDemand
+    row-demand-mono base off x y h = omega (arith, row-load-mono x y h, v-grows (x + off) (y + off) (omega arith))
+
+    pub row-busy-mono : (l c period jitter : ℕ) → 0 < period → Mono (rowBusy v per jit cost n l c period jitter)
+    unfolding rowBusy
+    row-busy-mono l c period jitter pos x y h =
+        omega
+        (arith, row-load-mono x y h, v-grows x y h, mul-le-mul-right c (most-grows (counted (rowStream period jitter) pos) x y h))
+
+  -- what a try asks for, with all frames in w counted
+  pub tried : (v : ℕ → ℕ) (base off w : ℕ) (next : List ℕ) (load least blocked : ℕ)
+      → RowsCounted per jit cost n next load least w → w < least → blocked ≡ v (w + off)
+      → base + load + blocked ≡ rowDemand v per jit cost n base off w
+  unfolding rowDemand
+  tried v base off w next load least blocked u past e =
+      omega (arith, rows-all per jit cost n fit next load least w u past)
+
+-- with the frames of one stream more, a try is one of the busy window
+pub tried-busy : (v : ℕ → ℕ) (per jit cost : List ℕ) (n l c period jitter base k w : ℕ)
+    → base ≡ l + k * c → k ≡ mostIn (rowStream period jitter) w
+    → rowDemand v per jit cost n base 0 w ≡ rowBusy v per jit cost n l c period jitter w
+unfolding rowDemand rowBusy
+tried-busy v per jit cost n l c period jitter base k w eb e =
+    omega (arith, ap (λ (q : ℕ). q * c) e, ap v (add-zero w))
+
+-- ---- a search from below, after a try that asks for y
+
+module _ {f : ℕ → ℕ} {w y : ℕ} (u : Under f w) (e : y ≡ f w) where
+  -- w covers it
+  pub search-closes : y ≤ w → Least f w
+  search-closes h = under-least u (omega arith)
+
+  -- w does not: the search goes on from y
+  pub search-goes-on : Mono f → Under f y
+  search-goes-on mono = rw e (under-step mono u)
+
+  -- w covers it, and is no longer than the horizon; or y is over the horizon
+  pub window-closes : y ≤ w → w ≤ 100_000_000 → Settled f w
+  window-closes h soon = record { least = λ l. search-closes h; none = λ l. absurd (omega arith) }
+
+  pub window-none : Mono f → 100_000_000 < y → Settled f 100_000_001
+  window-none mono h = record { least = λ l. absurd (omega arith); none = λ l. under-over (search-goes-on mono) h }
+
+-- where some number up to the horizon closes, the search never passes the horizon
+pub under-soon : {f : ℕ → ℕ} {w : ℕ} → Under f w → Closes f → w ≤ 100_000_000
+under-soon u (x, closes, soon) = le-trans (u .under x closes) soon
+
+-- and base is no longer than it either
+pub base-soon : (v : ℕ → ℕ) (per jit cost : List ℕ) (n base off : ℕ) → Closes (rowDemand v per jit cost n base off)
+    → base ≤ 100_000_000
+unfolding rowDemand
+base-soon v per jit cost n base off (x, closes, soon) = omega arith

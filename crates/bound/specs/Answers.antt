@@ -1,0 +1,110 @@
+-- What is asked about a stream, and what is answered.
+use mathlib.Core.Path.{_≡_}
+use mathlib.Core.Logic.{_⊎_}
+use mathlib.Core.List.{List, map}
+use mathlib.Core.Option.{Option, none, some}
+use Prim.Native.Nat.{ℕ, _+_, _≤_, _<_}
+use lib.ListN.{length, take}
+use Rattle.laws.specs.Lists.{Mem}
+use Rattle.laws.specs.Numbers.{Least, Mono}
+use Rattle.meaning.specs.declared.Stream.{Stream}
+use Rattle.meaning.specs.Wire.{wireTime}
+use Rattle.meaning.specs.Arrivals.{mostIn}
+use Rattle.meaning.specs.Response.{ahead, busyLoad, bound}
+use Rattle.meaning.proofs.FewFrames.{worstOf}
+use Rattle.table.specs.Lookup.{allIn, TableFits}
+use Rattle.bound.specs.declared.Response.{Response}
+use Rattle.bound.specs.declared.Response.the-variants.{Within, Endless}
+use Rattle.bound.specs.Rows.{rowStream, RowsFit}
+use Rattle.bound.specs.Searches.{tableV, rowBusy}
+
+-- ---- the answer
+
+-- the bound of a stream; none is an endless stream
+unfoldable pub responseOf : Option ℕ → Response
+responseOf none = Endless
+responseOf (some r) = Within r
+
+-- ---- what a question asks of its numbers
+
+-- a stream whose numbers are in range, whatever the octet limit
+pub record StreamFits (j : Stream) : Type 0 where
+  pub octets-most : j .octets ≤ 2_000
+  pub period-least : 10_000 ≤ j .period
+  pub period-most : j .period ≤ 100_000_000
+  pub jitter-most : j .jitter ≤ 100_000_000
+
+-- stairs that can be read and whose V grows and spreads, streams in range, a rate code
+pub record Asks (rate cycle : ℕ) (far tot : List ℕ) (m : ℕ) (streams : List Stream) (n : ℕ) (own : Stream) : Type 0 where
+  pub table : TableFits cycle far tot m
+  pub all-most : allIn tot m ≤ 100_000_000
+  pub v-grows : Mono (tableV cycle far tot m)
+  pub v-spreads : (x y : ℕ) → tableV cycle far tot m (x + y) ≤ tableV cycle far tot m x + tableV cycle far tot m y
+  pub few : n ≤ 64
+  pub rate-least : 1 ≤ rate
+  pub rate-most : rate ≤ 5
+  pub streams-fit : (j : Stream) → Mem j (take n streams) → StreamFits j
+  pub own-fits : StreamFits own
+
+-- ---- the streams that rows of numbers stand for
+
+-- the first n numbers of the rows are the periods, the jitters and the wire times of these streams
+pub record RowsOf (rate : ℕ) (js : List Stream) (per jit cost : List ℕ) (n : ℕ) : Type 0 where
+  pub many : n ≡ length js
+  pub periods : take n per ≡ map (λ j. j .period) js
+  pub jitters : take n jit ≡ map (λ j. j .jitter) js
+  pub costs : take n cost ≡ map (λ j. wireTime rate (j .octets)) js
+
+-- a stream of wire time c, and others beside it: the rows stand for those of equal or higher priority
+pub record Beside (c period jitter : ℕ) (per jit cost : List ℕ) (n : ℕ) : Type 0 where
+  pub rate : ℕ
+  pub own : Stream
+  pub rest : List Stream
+  pub wire-is : c ≡ wireTime rate (own .octets)
+  pub period-is : period ≡ own .period
+  pub jitter-is : jitter ≡ own .jitter
+  pub rows : RowsOf rate (ahead own rest) per jit cost n
+  pub some-period : (j : Stream) → Mem j rest → 0 < j .period
+
+-- and its busy window, with that many frames from the last that can come at 0 on
+pub record BesideIn (v : ℕ → ℕ) (l c period jitter : ℕ) (per jit cost : List ℕ) (n frames : ℕ) : Type 0 where
+  pub beside : Beside c period jitter per jit cost n
+  pub b : ℕ
+  pub busy : Least (busyLoad (beside .rate) v l (beside .rest) (beside .own)) b
+  pub ends : b ≤ 100_000_000
+  pub inside : mostIn (beside .own) 0 + frames ≤ mostIn (beside .own) b + 1
+
+-- ---- what is computed from rows of numbers
+
+-- how many frames are enough of those that a busy window has: all, or, where z closes without l and jitter, one and as
+-- many as can come later in z
+abbrev pub EnoughOf : (v : ℕ → ℕ) (per calm cost : List ℕ) (n c gap all r : ℕ) → Type 0
+EnoughOf v per calm cost n c gap all r =
+    (r ≡ all) ⊎ ((z : ℕ) × (rowBusy v per calm cost n 0 c gap 0 z ≤ z) × (mostIn (rowStream gap 0) z + 1 ≤ r))
+
+-- r is the largest response of that many frames, whichever streams the numbers stand for
+abbrev pub WorstFor : (v : ℕ → ℕ) (l c period jitter : ℕ) (per jit cost : List ℕ) (n frames r : ℕ) → Type 0
+WorstFor v l c period jitter per jit cost n frames r =
+    (s : BesideIn v l c period jitter per jit cost n frames)
+    → r ≡ worstOf (s .beside .rate) v l (s .beside .rest) (s .beside .own) (s .b) (mostIn (s .beside .own) 0) frames
+
+-- r is the response bound, whichever streams the numbers stand for
+abbrev pub BoundFor : (v : ℕ → ℕ) (l c period jitter : ℕ) (per jit cost : List ℕ) (n : ℕ) → Response → Type 0
+BoundFor v l c period jitter per jit cost n r =
+    (s : Beside c period jitter per jit cost n) → r ≡ responseOf (bound (s .rate) v l (s .rest) (s .own))
+
+-- numbers from which that can be computed
+pub record RowsAsk (cycle : ℕ) (far tot : List ℕ) (m : ℕ) (per jit cost : List ℕ) (n l c period jitter : ℕ)
+    : Type 0 where
+  pub table : TableFits cycle far tot m
+  pub all-most : allIn tot m ≤ 100_000_000
+  pub v-grows : Mono (tableV cycle far tot m)
+  pub v-spreads : (x y : ℕ) → tableV cycle far tot m (x + y) ≤ tableV cycle far tot m x + tableV cycle far tot m y
+  pub rows-fit : RowsFit per jit cost n
+  pub lower-most : l ≤ 2_000_000
+  pub wire-least : 1 ≤ c
+  pub wire-most : c ≤ 2_000_000
+  pub period-least : 10_000 ≤ period
+  pub period-most : period ≤ 100_000_000
+  pub jitter-most : jitter ≤ 100_000_000
+  pub beside : Beside c period jitter per jit cost n

@@ -1,0 +1,4 @@
+pub mod Unpacked
+pub mod Rows
+pub mod Searches
+pub mod Answers

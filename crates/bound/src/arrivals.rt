@@ -1,0 +1,33 @@
+// Arrivals: all that the code takes from the formulas of document 01. How many frames can come, and when the next one.
+ghost use mathlib.Core.Path.{_≡_};
+ghost use Prim.Native.Nat.{_≤_};
+ghost use Rattle.meaning.specs.Arrivals.{mostIn};
+ghost use Rattle.meaning.proofs.Later.{nextOf};
+ghost use Rattle.bound.specs.Rows.{rowStream, stepped};
+
+// The most frames in a closed stretch of x ns.
+pub fn frames_in(x: u32, period: u32, jitter: u32) -> u32
+    requires { ⌜ (x ≤ 100_000_000) × (10_000 ≤ period) × (jitter ≤ 100_000_000) ⌝ }
+    ensures { λ r. ⌜ (r ≡ mostIn (rowStream period jitter) x) × (1 ≤ r) × (r ≤ 20_001) ⌝ }
+{
+    (x + jitter) / period + 1
+}
+
+// When one frame more than in x ns can come.
+pub fn next_after(x: u32, period: u32, jitter: u32) -> u32
+    requires { ⌜ (x ≤ 100_000_000) × (10_000 ≤ period) × (period ≤ 100_000_000) × (jitter ≤ 100_000_000) ⌝ }
+    ensures { λ r. ⌜ (r ≡ nextOf (rowStream period jitter) x) × (r ≤ 200_000_000) ⌝ }
+{
+    frames_in(x, period, jitter) * period - jitter
+}
+
+// The next instant after the one at a, where that has come by x; else a.
+pub fn step(x: u32, a: u32, period: u32) -> u32
+    requires { ⌜ (x ≤ 200_000_000) × (period ≤ 100_000_000) ⌝ }
+    ensures { λ r. ⌜ r ≡ stepped x a period ⌝ }
+{
+    if a <= x {
+        return a + period;
+    }
+    a
+}
