@@ -10,3 +10,4 @@ pub mod StreamLaws
 pub mod OpenFits
 pub mod Asking
 pub mod Reaching
+pub mod Responding

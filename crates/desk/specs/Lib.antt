@@ -1,3 +1,4 @@
 pub mod Desks
 pub mod Edits
 pub mod Reach
+pub mod Judged

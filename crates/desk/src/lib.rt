@@ -3,6 +3,7 @@ mod parts;
 mod ports;
 mod questions;
 mod ranges;
+mod responses;
 mod slots;
 mod streams;
 
@@ -16,6 +17,7 @@ pub use ports::open_port;
 pub use questions::interference;
 pub use questions::runs;
 pub use questions::stairs;
+pub use responses::response;
 pub use slots::add_slot;
 pub use slots::hold_slot;
 pub use slots::remove_slot;

@@ -55,7 +55,8 @@ module _ (g : Gate) (ss : List Slot) (far tot : List ℕ) (n : ℕ)
   long : (n ≤ length far) × (n ≤ length tot)
   long = rows-long far tot n (omega (arith, ap (λ (st : List Stair). length st) held))
 
-  all-is : allIn tot n ≡ allLen (runs g ss)
+  -- the last total is all blocked cells
+  pub all-is : allIn tot n ≡ allLen (runs g ss)
   all-is =
       sym (last-all far tot n (record { far = 0; total = 0 }) refl (long .0) (long .1))
       ∙ ap (λ (st : List Stair). getLastD st (record { far = 0; total = 0 }) .total) held
