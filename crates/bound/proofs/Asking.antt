@@ -52,9 +52,13 @@ module _ (rate cycle : ℕ) (far tot : List ℕ) (m : ℕ) (streams : List Strea
   few-ahead : length (ahead own rest) ≤ 64
   unfolding ahead
   few-ahead =
-      omega
-      (arith, ask .few, keep-shorter (λ j. leb (own .priority) (j .priority)) rest, without-shorter leave (take n streams),
-      length-take n streams)
+      omega (
+        arith,
+        ask .few,
+        keep-shorter (λ j. leb (own .priority) (j .priority)) rest,
+        without-shorter leave (take n streams),
+        length-take n streams,
+      )
 
   lower-few : lowerWire rate own rest ≤ 2_000_000
   unfolding lowerWire

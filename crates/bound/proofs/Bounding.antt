@@ -66,9 +66,13 @@ module _ (v : ℕ → ℕ) (l c period jitter : ℕ) (per jit cost : List ℕ) (
         -- all frames from the last that can come at 0 on
         all-frames : mostIn (s .own) 0 + all ≡ mostIn (s .own) b + 1
         all-frames =
-            omega
-            (arith, all-is, most-own v c period jitter per jit cost n s 0, most-own v c period jitter per jit cost n s b,
-            most-grows (counted (s .own) own-pos) 0 b zero-le)
+            omega (
+              arith,
+              all-is,
+              most-own v c period jitter per jit cost n s 0,
+              most-own v c period jitter per jit cost n s b,
+              most-grows (counted (s .own) own-pos) 0 b zero-le,
+            )
 
         pub beside-in : BesideIn v l c period jitter per jit cost n few
         beside-in =
@@ -92,8 +96,8 @@ module _ (v : ℕ → ℕ) (l c period jitter : ℕ) (per jit cost : List ℕ) (
       bound-within spreads calm none fewer r worst s =
           let inside = beside-in s in
           let same =
-              worst inside
-              ∙ few-frames (s .rate) v l (s .rest) (s .own) (s .some-period) (own-pos s) spreads b few (window-least s)
-              (inside .inside) (enough s calm none fewer) in
+          worst inside
+          ∙ few-frames (s .rate) v l (s .rest) (s .own) (s .some-period) (own-pos s) spreads b few (window-least s)
+          (inside .inside) (enough s calm none fewer) in
           ap Within same
           ∙ ap responseOf (sym (bound-some (s .rate) v l (s .rest) (s .own) b (window-least s) soon))

@@ -117,9 +117,9 @@ module _ (v : ℕ → ℕ) (v-grows : Mono v) (l c period jitter : ℕ) (some : 
         let one = most-one (counted own own-pos) 0 in
         let inside = most-grows (counted own own-pos) 0 (s .b) zero-le in
         let under =
-            wait-under rate v l rest own (s .beside .some-period) (s .b) (mostIn own 0)
-            (l + (mostIn own 0 - 1) * wireTime rate (own .octets)) (s .busy) one inside
-            (wait-cold rate v l rest own (mostIn own 0)) in
+        wait-under rate v l rest own (s .beside .some-period) (s .b) (mostIn own 0)
+        (l + (mostIn own 0 - 1) * wireTime rate (own .octets)) (s .busy) one inside
+        (wait-cold rate v l rest own (mostIn own 0)) in
         omega (arith, same-start base e, under, s .ends, s .beside .wire-is)
 
     -- where the search for its wait starts
@@ -149,7 +149,7 @@ module _ (v : ℕ → ℕ) (v-grows : Mono v) (l c period jitter : ℕ) (some : 
       pub frame-closes : Closes (rowDemand v per jit cost n base c)
       frame-closes =
           let (fits, closed) =
-              wait-room rate v l rest own (s .beside .some-period) (s .b) q (s .busy) (inside .0) (inside .1) in
+          wait-room rate v l rest own (s .beside .some-period) (s .b) q (s .busy) (inside .0) (inside .1) in
           rw (waits k base come later f) (s .b - wireTime rate (own .octets), closed, omega (arith, s .ends))
 
       pub frame-under : (w best : ℕ) → FramesDone v l c period jitter per jit cost n frames k w best
@@ -164,10 +164,10 @@ module _ (v : ℕ → ℕ) (v-grows : Mono v) (l c period jitter : ℕ) (some : 
         pub frame-sent : (w + c ≤ 100_000_000) × (come ≤ w)
         frame-sent =
             let in-time =
-                wait-inside rate v l rest own (s .beside .some-period) (s .b) q w (s .busy) (inside .0) (inside .1) waited in
+            wait-inside rate v l rest own (s .beside .some-period) (s .b) q w (s .busy) (inside .0) (inside .1) waited in
             let arrived =
-                wait-arrived rate v l rest own (s .beside .some-period) v-grows own-pos
-                (omega (arith, s .beside .wire-is)) (s .b) q w (s .busy) (inside .0) (inside .1) waited in
+            wait-arrived rate v l rest own (s .beside .some-period) v-grows own-pos
+            (omega (arith, s .beside .wire-is)) (s .b) q w (s .busy) (inside .0) (inside .1) waited in
             (omega (arith, in-time, s .ends, s .beside .wire-is), omega (arith, arrived, come-is))
 
         -- the largest response with it, and where the search for the next wait starts
@@ -177,8 +177,8 @@ module _ (v : ℕ → ℕ) (v-grows : Mono v) (l c period jitter : ℕ) (some : 
             × Under (waitLoad rate v l rest own (mostIn own 0 + (k + 1))) (w + c)
         frame-next best e =
             let more =
-                worst-more rate v l rest own (s .beside .some-period) (s .b) (mostIn own 0) k w (s .busy)
-                (most-one (counted own own-pos) 0) (inside .1) waited in
+            worst-more rate v l rest own (s .beside .some-period) (s .b) (mostIn own 0) k w (s .busy)
+            (most-one (counted own own-pos) 0) (inside .1) waited in
             let warm = wait-warm rate v l rest own (s .beside .some-period) v-grows q w (inside .0) waited in
             let next : mostIn own 0 + (k + 1) ≡ q + 1 = omega arith in (
               ap₂ max e (ap₂ (λ (a d : ℕ). w + a - d) (s .beside .wire-is) come-is) ∙ sym more,

@@ -99,6 +99,9 @@ module _ (v : ℕ → ℕ) (c period jitter : ℕ) (per jit cost : List ℕ) (n 
       → rowBusy v per calm cost n 0 c period 0 z ≡ calmLoad (s .rate) v (s .rest) (s .own) z
   unfolding rowBusy calmLoad
   calm-rows calm none z =
-      omega
-      (arith, ap₂ (λ (a b : ℕ). a * b) (later-own z) (s .wire-is), rows-later (s .rate) (ahead (s .own) (s .rest)) per jit
-      cost n (s .rows) calm none z)
+      omega (
+        arith,
+        ap₂ (λ (a b : ℕ). a * b) (later-own z) (s .wire-is),
+        rows-later (s .rate) (ahead (s .own) (s .rest)) per jit
+            cost n (s .rows) calm none z,
+      )

@@ -43,9 +43,14 @@ module _ (cycle : ℕ) (far tot : List ℕ) (m : ℕ) (fit : TableBounds cycle f
   pub table-most : (t : ℕ) → t ≤ 102_000_000 → v t ≤ 10_300_000_000_000_000
   table-most t h =
       let cycles = le-trans (div-le-self t cycle) h in
-      omega
-      (arith, table-round t, fit .all-most, fit .first-most, mul-le-mul {n₁ = t / cycle} {m₁ = allIn tot m}
-      {n₂ = 102_000_000} {m₂ = 100_000_000} cycles (fit .all-most))
+      omega (
+        arith,
+        table-round t,
+        fit .all-most,
+        fit .first-most,
+        mul-le-mul {n₁ = t / cycle} {m₁ = allIn tot m}
+            {n₂ = 102_000_000} {m₂ = 100_000_000} cycles (fit .all-most),
+      )
 
 -- ---- tries
 

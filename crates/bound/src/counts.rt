@@ -63,13 +63,7 @@ pub fn count(
 }
 
 // One pass: each stream whose next frame has come by x has one more counted. Answers what that adds.
-fn pass(
-    next: &mut [u32; 64],
-    per: &[u32; 64],
-    cost: &[u32; 64],
-    n: usize,
-    x: u32,
-) -> Counts
+fn pass(next: &mut [u32; 64], per: &[u32; 64], cost: &[u32; 64], n: usize, x: u32) -> Counts
     requires { ⌜ (n ≤ 64) × RowIn 10_000 100_000_000 (now per) n × RowIn 0 2_000_000 (now cost) n
         × (x ≤ 100_000_000) × (length (now next) ≡ 64) ⌝ }
     ensures { λ r. ⌜ Passed (now (next .entry)) (now (per .entry)) (now (cost .entry)) x n
@@ -86,7 +80,10 @@ fn pass(
         next[i] = s;
         i += 1;
     }
-    Counts { load: add as u64, least }
+    Counts {
+        load: add as u64,
+        least,
+    }
 }
 
 // The frames counted so far brought up to x: passes until no next instant has come. The jitters stand in the contract.

@@ -48,7 +48,21 @@ pub fn enough<'a>(
             return all;
         }
         let base = k as u64 * c as u64;
-        let t = attempt(next, per, calm, cost, n, cycle, far, tot, m, base, 0, w, Counts { load, least });
+        let t = attempt(
+            next,
+            per,
+            calm,
+            cost,
+            n,
+            cycle,
+            far,
+            tot,
+            m,
+            base,
+            0,
+            w,
+            Counts { load, least },
+        );
         load = t.load;
         least = t.least;
         if t.need <= w as u64 {
@@ -106,7 +120,21 @@ pub fn worst<'a>(
     let mut best: u32 = 0;
     let mut k: u32 = 0;
     while k < frames {
-        let s = settle(next, per, jit, cost, n, cycle, far, tot, m, base as u64, c, w, Counts { load, least });
+        let s = settle(
+            next,
+            per,
+            jit,
+            cost,
+            n,
+            cycle,
+            far,
+            tot,
+            m,
+            base as u64,
+            c,
+            w,
+            Counts { load, least },
+        );
         load = s.load;
         least = s.least;
         best = crate::larger(best, s.w + c - come);

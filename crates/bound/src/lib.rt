@@ -9,6 +9,7 @@ ghost use Rattle.meaning.specs.Response.{lowerWire, bound};
 ghost use Rattle.bound.specs.Unpacked.{aheadOf};
 ghost use Rattle.bound.specs.Searches.{tableV};
 ghost use Rattle.bound.specs.Answers.{responseOf, Asks, RowsAsk, BoundFor};
+
 mod arrivals;
 mod counts;
 mod frames;
@@ -120,14 +121,56 @@ pub fn rows_bound<'a>(
         return Response::Endless;
     }
     let mut next = [0u32; 64];
-    let b = window(&mut next, per, jit, cost, n, cycle, far, tot, m, l, c, period, jitter);
+    let b = window(
+        &mut next,
+        per,
+        jit,
+        cost,
+        n,
+        cycle,
+        far,
+        tot,
+        m,
+        l,
+        c,
+        period,
+        jitter,
+    );
     if HORIZON < b as u64 {
         return Response::Endless;
     }
     let all = frames_in(b, period, jitter) + 1 - frames_in(0, period, jitter);
     let calm = [0u32; 64];
-    let few = enough(&mut next, per, &calm, cost, n, cycle, far, tot, m, c, period, all);
-    Response::Within(worst(&mut next, per, jit, cost, n, cycle, far, tot, m, l, c, period, jitter, few))
+    let few = enough(
+        &mut next,
+        per,
+        &calm,
+        cost,
+        n,
+        cycle,
+        far,
+        tot,
+        m,
+        c,
+        period,
+        all,
+    );
+    Response::Within(worst(
+        &mut next,
+        per,
+        jit,
+        cost,
+        n,
+        cycle,
+        far,
+        tot,
+        m,
+        l,
+        c,
+        period,
+        jitter,
+        few,
+    ))
 }
 
 // The response bound of own beside the first n streams of a row, all but the one at place leave.
@@ -151,5 +194,18 @@ pub fn response_bound<'a>(
     let per = a.per;
     let jit = a.jit;
     let cost = a.cost;
-    rows_bound(&per, &jit, &cost, a.n, cycle, far, tot, nstairs, a.lower, c, own.period, own.jitter)
+    rows_bound(
+        &per,
+        &jit,
+        &cost,
+        a.n,
+        cycle,
+        far,
+        tot,
+        nstairs,
+        a.lower,
+        c,
+        own.period,
+        own.jitter,
+    )
 }

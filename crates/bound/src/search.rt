@@ -93,7 +93,21 @@ pub fn settle<'a>(
     let mut load: u64 = seen.load;
     let mut least: u32 = seen.least;
     loop {
-        let t = attempt(next, per, jit, cost, n, cycle, far, tot, m, base, off, w, Counts { load, least });
+        let t = attempt(
+            next,
+            per,
+            jit,
+            cost,
+            n,
+            cycle,
+            far,
+            tot,
+            m,
+            base,
+            off,
+            w,
+            Counts { load, least },
+        );
         load = t.load;
         least = t.least;
         if t.need <= w as u64 {
@@ -132,7 +146,21 @@ pub fn window<'a>(
     let mut least: u32 = f.least;
     loop {
         let base = l as u64 + frames_in(w, period, jitter) as u64 * c as u64;
-        let t = attempt(next, per, jit, cost, n, cycle, far, tot, m, base, 0, w, Counts { load, least });
+        let t = attempt(
+            next,
+            per,
+            jit,
+            cost,
+            n,
+            cycle,
+            far,
+            tot,
+            m,
+            base,
+            0,
+            w,
+            Counts { load, least },
+        );
         load = t.load;
         least = t.least;
         if t.need <= w as u64 {

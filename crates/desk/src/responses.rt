@@ -4,10 +4,10 @@ ghost use Rattle.meaning.specs.Desks.{asked};
 ghost use Rattle.meaning.specs.Calls.{askResponse};
 ghost use Rattle.desk.specs.Desks.{held, Fit, figureReply};
 ghost use Rattle.desk.specs.Judged.{judgedBy};
-use bound::Response;
 use crate::Desk;
 use crate::Figure;
 use crate::FigureReply;
+use bound::Response;
 use meaning::Refusal;
 
 // The bound, or the refusal where the stream is endless or late.
@@ -46,7 +46,17 @@ pub fn response(d: Desk, id: u64) -> FigureReply
         };
     }
     let own = streams[p];
-    let answer = bound::response_bound(d.rate, d.cycle, &d.far, &d.tot, d.nstairs, streams, n, own, p);
+    let answer = bound::response_bound(
+        d.rate,
+        d.cycle,
+        &d.far,
+        &d.tot,
+        d.nstairs,
+        streams,
+        n,
+        own,
+        p,
+    );
     FigureReply {
         figure: judge(own.deadline, answer),
         desk: d,

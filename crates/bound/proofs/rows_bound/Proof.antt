@@ -70,9 +70,13 @@ sub-all c =
     let f = c .before in
     let w = f .before .before in
     let s = w .before .before .before .before in
-    omega
-    (arith, f .frames-in .ensures .0, c .frames-in2 .ensures .0, frames-grow 0 (w .window .result) (s .args .period)
-    (s .args .jitter) (omega arith) (s .pre .period-least))
+    omega (
+      arith,
+      f .frames-in .ensures .0,
+      c .frames-in2 .ensures .0,
+      frames-grow 0 (w .window .result) (s .args .period)
+          (s .args .jitter) (omega arith) (s .pre .period-least),
+    )
 
 enough-requires : tie.Need-enough-requires
 enough-requires c κs =

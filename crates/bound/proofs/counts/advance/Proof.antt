@@ -29,9 +29,13 @@ add-load c =
     let h = c .before .before .before .before in
     let a = h .before .args in
     let p = h .before .pre in
-    omega
-    (arith, p .0 .few, c .before .pass .ensures .few, rows-few (a .per .now) (a .jit .now) (a .cost .now) (a .n) (p .0)
-    (h .loop .next) (h .loop .load) (h .loop .least) (a .x) (h .loop .inv) (p .1))
+    omega (
+      arith,
+      p .0 .few,
+      c .before .pass .ensures .few,
+      rows-few (a .per .now) (a .jit .now) (a .cost .now) (a .n) (p .0)
+          (h .loop .next) (h .loop .load) (h .loop .least) (a .x) (h .loop .inv) (p .1),
+    )
 
 loop-less : tie.Need-loop-less Inv-loop μ-loop
 loop-less c =
@@ -39,9 +43,11 @@ loop-less c =
     let a = h .before .args in
     let l = h .loop in
     let r = c .before .pass in
-    omega
-    (arith, pass-rises (a .per .now) (a .jit .now) (a .cost .now) (a .n) (h .before .pre .0) (l .next) (l .load) (l .least)
-    (a .x) (l .inv) (r .last .0) (r .result .load) (r .result .least) (r .ensures) (omega arith) (h .before .pre .1))
+    omega (
+      arith,
+      pass-rises (a .per .now) (a .jit .now) (a .cost .now) (a .n) (h .before .pre .0) (l .next) (l .load) (l .least)
+          (a .x) (l .inv) (r .last .0) (r .result .load) (r .result .least) (r .ensures) (omega arith) (h .before .pre .1),
+    )
 
 loop-again : tie.Need-loop-again Inv-loop μ-loop
 loop-again c =

@@ -83,9 +83,14 @@ add-load : tie.Need-add-load Inv-loop μ-loop
 add-load c =
     let h = c .before .before .before .before .before .before in
     let a = h .before .args in
-    omega
-    (arith, product c, h .loop .inv .1 .2, h .before .pre .0 .few, row-load-few (a .per .now) (a .jit .now) (a .cost .now)
-    (a .n) (h .before .pre .0) (a .x) (h .loop .i) (omega arith) (omega arith))
+    omega (
+      arith,
+      product c,
+      h .loop .inv .1 .2,
+      h .before .pre .0 .few,
+      row-load-few (a .per .now) (a .jit .now) (a .cost .now)
+          (a .n) (h .before .pre .0) (a .x) (h .loop .i) (omega arith) (omega arith),
+    )
 
 lesser-requires : tie.Need-lesser-requires Inv-loop μ-loop
 lesser-requires c κs = search needs

@@ -71,8 +71,8 @@ returns-2 c =
     let k = f .frames-in in
     let none : k .result * a .c ≡ 0 + k .result * a .c = omega arith in
     let busy =
-        tried-busy v (a .per .now) (a .calm .now) (a .cost .now) (a .n) 0 (a .c) (a .gap) 0 (k .result * a .c) (k .result)
-        (h .loop .w) none (k .ensures .0) in (
+    tried-busy v (a .per .now) (a .calm .now) (a .cost .now) (a .n) 0 (a .c) (a .gap) 0 (k .result * a .c) (k .result)
+    (h .loop .w) none (k .ensures .0) in (
       inr (h .loop .w, omega (arith, g .attempt .ensures .1, busy), omega (arith, k .ensures .0)),
       omega arith,
       g .attempt .ensures .0 .long,

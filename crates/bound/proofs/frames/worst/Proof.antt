@@ -159,9 +159,13 @@ step-requires c κs =
     let s = h .before .before .before .before .before in
     let a = s .args in
     let l = h .loop in (
-      omega
-          (arith, s .pre .6, sent g, later-soon (a .l) (a .c) (a .period) (a .jitter) (s .pre .5) (l .k) (l .base) (l .come)
-          (l .later) (l .inv .3)),
+      omega (
+        arith,
+        s .pre .6,
+        sent g,
+        later-soon (a .l) (a .c) (a .period) (a .jitter) (s .pre .5) (l .k) (l .base) (l .come)
+            (l .later) (l .inv .3),
+      ),
       s .pre .6,
     )
 

@@ -23,9 +23,12 @@ counted-few c =
     let s = c .before .before .before .before in
     let a = s .args in
     let g = c .before .before .advance in
-    omega
-    (arith, s .pre .0 .few, rows-few (a .per .now) (a .jit .now) (a .cost .now) (a .n) (s .pre .0) (g .last .0)
-    (g .result .load) (g .result .least) (a .w) (g .ensures .0) (s .pre .3))
+    omega (
+      arith,
+      s .pre .0 .few,
+      rows-few (a .per .now) (a .jit .now) (a .cost .now) (a .n) (s .pre .0) (g .last .0)
+          (g .result .load) (g .result .least) (a .w) (g .ensures .0) (s .pre .3),
+    )
 
 add-need : tie.Need-add-need
 add-need c = omega (arith, counted-few c)
@@ -35,9 +38,13 @@ add-need-2 c =
     let s = c .before .before .before .before in
     let a = s .args in
     let v = c .before .interference in
-    omega
-    (arith, counted-few c, v .ensures, table-most (a .cycle) (a .far .now) (a .tot .now) (a .m) (s .pre .1) (a .w + a .off)
-    (omega arith))
+    omega (
+      arith,
+      counted-few c,
+      v .ensures,
+      table-most (a .cycle) (a .far .now) (a .tot .now) (a .m) (s .pre .1) (a .w + a .off)
+          (omega arith),
+    )
 
 returns : tie.Need-returns
 returns c =

@@ -51,8 +51,8 @@ goes-on c =
     let a = h .before .args in
     let p = h .before .pre in
     let grows =
-        row-demand-mono (a .per .now) (a .jit .now) (a .cost .now) (a .n) (p .0)
-        (tableV (a .cycle) (a .far .now) (a .tot .now) (a .m)) (p .1 .grows) (a .base) (a .off) in
+    row-demand-mono (a .per .now) (a .jit .now) (a .cost .now) (a .n) (p .0)
+    (tableV (a .cycle) (a .far .now) (a .tot .now) (a .m)) (p .1 .grows) (a .base) (a .off) in
     let u = search-goes-on (h .loop .inv .1) (g .attempt .ensures .1) grows in
     (u, under-soon u (p .6))
 

@@ -41,8 +41,7 @@ returns-2 c =
     let t = c .before in
     let e = t .before .before in
     let b = e .before in
-    let h = open-at e in
-    (
+    let h = open-at e in (
       response-not-held (b .args .t1) (b .pre) (b .args .id) (not-false _ (e .if1 .left))
           (omega (arith, c .if2 .taken, t .stream-place .ensures .0, h .streams-count)),
       b .pre,
@@ -89,8 +88,7 @@ returns-3 c =
     let t = e .before in
     let o = t .before .before in
     let b = o .before in
-    let (inside, same) = found e in
-    (
+    let (inside, same) = found e in (
       ap (λ (x : Figure). record { figure = x; desk = b .args .t1 }) (c .judge .ensures)
           ∙ response-open (b .args .t1) (b .pre) (b .args .id) (not-false _ (o .if1 .left)) (t .stream-place .result)
           (t .stream-place .ensures .0) inside _ same _ (c .before .response-bound .ensures),
