@@ -34,3 +34,7 @@ fit-unique d e f g h = f .canonical ∙ ap deskOf h ∙ sym (g .canonical)
 -- "the same desk" of document 01 is equality of the structs
 pub same-struct : (d e : Desk) → Fit d → Fit e → SameDesk (held d) (held e) → d ≡ e
 same-struct d e f g h = fit-unique d e f g (same-desk (held d) (held e) .0 h)
+
+-- a contract by equation leaves room for one reply only
+pub no-second-reply : {A : Type 0} {r s m : A} → r ≡ m → s ≡ m → r ≡ s
+no-second-reply a b = a ∙ sym b

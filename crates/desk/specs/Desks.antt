@@ -1,7 +1,7 @@
 -- The desk struct: what it holds, when it is fit, and how the meaning of a call is handed back.
 use mathlib.Core.Path.{_≡_}
 use mathlib.Core.Bool.{Bool, true, false, cond}
-use mathlib.Core.List.{List, []}
+use mathlib.Core.List.{List, [], _∷_}
 use Prim.Native.Nat.{ℕ}
 use lib.ListN.{length, take}
 use Rattle.meaning.specs.declared.Port.{Port}
@@ -12,7 +12,7 @@ use Rattle.meaning.specs.declared.Run.{Run}
 use Rattle.meaning.specs.declared.Stair.{Stair}
 use Rattle.meaning.specs.Runs.{gateOf}
 use Rattle.meaning.specs.Interference.{stairs}
-use Rattle.meaning.specs.Refusals.{Answer, accepted, refused, numberOf}
+use Rattle.meaning.specs.Refusals.{Answer, accepted, refused, numberOf, valuesOf}
 use Rattle.meaning.specs.Desks.{bare, opened, Reply}
 use Rattle.meaning.specs.Desks.{Desk as Plan}
 use Rattle.meaning.specs.Promises.{SoundDesk}
@@ -135,3 +135,7 @@ verdictNumber (Verdicts.Refused r) = numberOf r
 unfoldable pub figureNumber : Figure → ℕ
 figureNumber (Figures.Is x) = 0
 figureNumber (Figures.Refused r) = numberOf r
+
+unfoldable pub figureValues : Figure → List ℕ
+figureValues (Figures.Is x) = x ∷ []
+figureValues (Figures.Refused r) = valuesOf r
