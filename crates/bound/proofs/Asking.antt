@@ -2,11 +2,11 @@
 -- Assumes nothing.
 use mathlib.Core.Path.{_≡_, refl, sym, ap, _∙_, subst}
 use mathlib.Core.List.{List, map}
-use Prim.Native.Nat.{ℕ, _≤_, _<_, zero-le}
+use Prim.Native.Nat.{ℕ, _≤_, zero-le}
 use native.Mathlib.Omega.{arith}
 use lib.ListN.{length, take, length-map, length-take}
 use lib.Dec.{leb, ltb}
-use Rattle.laws.specs.Lists.{keep, Mem, without, filled}
+use Rattle.laws.specs.Lists.{Mem, without, filled}
 use Rattle.laws.proofs.Lists.{largest-le}
 use Rattle.laws.proofs.Keeping.{keep-mem, keep-shorter}
 use Rattle.laws.proofs.Rows.{filled-take}

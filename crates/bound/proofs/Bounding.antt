@@ -1,17 +1,15 @@
 -- From a busy window and the largest response of the frames that are enough to the response bound.
 -- Assumes nothing.
 use mathlib.Core.Path.{_≡_, sym, ap, _∙_}
-use mathlib.Core.Logic.{_⊎_, inl, inr, ⊎-elim}
+use mathlib.Core.Logic.{inl, inr}
 use mathlib.Core.List.{List}
-use mathlib.Core.Option.{some}
 use Prim.Native.Nat.{ℕ, _+_, _-_, _≤_, _<_, zero-le}
 use native.Mathlib.Omega.{arith}
 use lib.ListN.{replicate, getD-replicate}
 use Rattle.laws.specs.Numbers.{Least, Mono}
-use Rattle.meaning.specs.declared.Stream.{Stream}
 use Rattle.meaning.specs.Ranges.{horizon}
 use Rattle.meaning.specs.Arrivals.{mostIn}
-use Rattle.meaning.specs.Response.{busyLoad, boundIn, bound}
+use Rattle.meaning.specs.Response.{busyLoad}
 use Rattle.meaning.proofs.Arrivals.{counted, most-grows}
 use Rattle.meaning.proofs.Responses.{endless-iff, bound-some}
 use Rattle.meaning.proofs.FewFrames.{Enough, few-frames}

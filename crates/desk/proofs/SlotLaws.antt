@@ -21,7 +21,7 @@ use Rattle.meaning.specs.Desks.{bare, opened}
 use Rattle.meaning.specs.Desks.{Desk as Plan}
 use Rattle.meaning.specs.Calls.{overlaps, withSlot, addSlot, removeSlot}
 use Rattle.meaning.specs.Promises.{Chain}
-use Rattle.meaning.proofs.InRange.{slot-in}
+use Rattle.meaning.proofs.InRange.{port-in, slot-in}
 use Rattle.meaning.proofs.Refusing.{accepted≢refused}
 use Rattle.meaning.proofs.Conditions.{AddSlotSays, add-slot-says, remove-slot-says}
 use Rattle.meaning.proofs.Sounds.{chain-insert, chain-rises}
@@ -30,7 +30,7 @@ use Rattle.gate.specs.Rows.{GateFits}
 use Rattle.desk.specs.declared.Desk.{Desk}
 use Rattle.desk.specs.Desks.{filledDesk, deskOf, held}
 use Rattle.desk.specs.Desks.{portIn, slotsIn, streamsIn}
-use Rattle.desk.specs.Edits.{withSlotRow, besideStairs}
+use Rattle.desk.specs.Edits.{withSlotRow, keepingStairs}
 use Rattle.desk.proofs.Opened.{Open, held-bare, slots-set}
 use Rattle.desk.proofs.StairLaws.{gate-fits, gate-chain}
 use Rattle.desk.proofs.Places.{PlaceOf, some-held, none-held, left-out}
@@ -50,6 +50,12 @@ module _ (d : Desk) (s : Slot) where
     add-slot-out-of-range r = rw (h .holds) (says .out-of-range .1 r)
 
     module _ (r : inRange (slotRanges (d .cycle) s) ≡ true) where
+      pub slot-in-32-bits : (s .start < 4_294_967_296) × (s .end < 4_294_967_296)
+      slot-in-32-bits =
+          let b = slot-in (d .cycle) s .0 r in
+          let c = port-in (portIn d) .0 (h .sound .port-in) in
+          (omega arith, omega arith)
+
       pub add-slot-full : 32 ≤ d .nslots → addSlot s (held d) ≡ refused Full
       unfolding mostSlots
       add-slot-full n = rw (h .holds) (says .full .1 (r, omega (arith, h .slots-count)))
@@ -82,7 +88,7 @@ module _ (d : Desk) (s : Slot) where
       taken = rw (e, more) (filled-take 32 noSlot (withSlot s (slotsIn d)))
 
       pub add-slot-row : withSlotRow d row (d .nslots + 1)
-          ≡ besideStairs d (opened (portIn d) (withSlot s (slotsIn d)) (streamsIn d))
+          ≡ keepingStairs d (opened (portIn d) (withSlot s (slotsIn d)) (streamsIn d))
       add-slot-row = slots-set d h row (d .nslots + 1) (withSlot s (slotsIn d)) e more
 
       module _ (g : Gate) (q : g ≡ gateOf (portIn d) (streamsIn d)) where
@@ -129,7 +135,8 @@ module _ (d : Desk) (start : ℕ) where
     pub remove-slot-accepts : p < d .nslots
         → removeSlot start (held d) ≡ accepted (opened (portIn d) (without p (slotsIn d)) (streamsIn d))
     remove-slot-accepts n =
-        let left = left-out (λ x. x .start) start (slotsIn d) p e (chain-rises 0 (d .cycle) (slotsIn d) (h .sound .chain)) in
+        let rise = chain-rises 0 (d .cycle) (slotsIn d) (h .sound .chain) in
+        let left = left-out (λ x. x .start) start (slotsIn d) p e rise in
         rw (h .holds)
         (remove-slot-says start (portIn d) (slotsIn d) (streamsIn d) .accepts _ .1 (
           some-held (λ x. x .start) start (slotsIn d) p e (omega (arith, h .slots-count)),
@@ -138,7 +145,7 @@ module _ (d : Desk) (start : ℕ) where
 
     -- the row without the slot, of which one less is held
     pub remove-slot-row : p < d .nslots → (row : List Slot) → row ≡ slotRow (without p (slotsIn d))
-        → withSlotRow d row (d .nslots - 1) ≡ besideStairs d (opened (portIn d) (without p (slotsIn d)) (streamsIn d))
+        → withSlotRow d row (d .nslots - 1) ≡ keepingStairs d (opened (portIn d) (without p (slotsIn d)) (streamsIn d))
     remove-slot-row n row r =
         let c = h .slots-count in
         slots-set d h row (d .nslots - 1) (without p (slotsIn d)) r

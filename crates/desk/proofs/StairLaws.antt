@@ -27,7 +27,7 @@ use Rattle.table.specs.Rows.{tableOf, RunsFit}
 use Rattle.desk.specs.declared.Desk.{Desk}
 use Rattle.desk.specs.Desks.{filledDesk, deskOf, held}
 use Rattle.desk.specs.Desks.{portIn, slotsIn, streamsIn}
-use Rattle.desk.specs.Edits.{besideStairs}
+use Rattle.desk.specs.Edits.{keepingStairs}
 use Rattle.desk.proofs.Opened.{Open}
 
 -- ---- the gate of a sound desk
@@ -109,7 +109,7 @@ module _ (d : Desk) (h : Open d) (g : Gate) (q : g ≡ gateOf (portIn d) (stream
     -- with them it is the one struct of what it holds
     pub stairs-set : (t : Table) → t ≡ tableOf (stairsOf (pairs (g .cycle) (take (found .n) (found .row))))
         → withTable d t ≡ deskOf (held d)
-    unfolding besideStairs deskOf filledDesk tableOf stairs
+    unfolding keepingStairs deskOf filledDesk tableOf stairs
     stairs-set t k =
         let st : t ≡ tableOf (stairs (gateOf (portIn d) (streamsIn d)) (slotsIn d)) =
         k

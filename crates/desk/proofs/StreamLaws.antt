@@ -26,7 +26,7 @@ use Rattle.rows.specs.Rows.{streamRow}
 use Rattle.desk.specs.declared.Desk.{Desk}
 use Rattle.desk.specs.Desks.{filledDesk, deskOf, held, Fit}
 use Rattle.desk.specs.Desks.{portIn, slotsIn, streamsIn}
-use Rattle.desk.specs.Edits.{withStreamRow, besideStairs}
+use Rattle.desk.specs.Edits.{withStreamRow, keepingStairs}
 use Rattle.desk.proofs.Opened.{Open, held-bare, fit-but-stairs, open-desk, streams-set}
 use Rattle.desk.proofs.Places.{PlaceOf, some-held, none-held, left-out}
 
@@ -34,12 +34,12 @@ use Rattle.desk.proofs.Places.{PlaceOf, some-held, none-held, left-out}
 
 -- they are the same whatever streams are held
 pub stairs-stay : (d : Desk) → Fit d → Open d → (js : List Stream)
-    → besideStairs d (opened (portIn d) (slotsIn d) js) ≡ deskOf (opened (portIn d) (slotsIn d) js)
-unfolding besideStairs deskOf filledDesk
+    → keepingStairs d (opened (portIn d) (slotsIn d) js) ≡ deskOf (opened (portIn d) (slotsIn d) js)
+unfolding keepingStairs deskOf filledDesk
 stairs-stay d f h js =
     let p = portIn d in
     let ss = slotsIn d in
-    (λ i. besideStairs ((f .canonical ∙ ap deskOf (h .holds)) i) (opened p ss js))
+    (λ i. keepingStairs ((f .canonical ∙ ap deskOf (h .holds)) i) (opened p ss js))
     ∙ ap (λ (g : Gate). filledDesk true p ss js (stairs g ss)) (gate-of-streams p (streamsIn d) js)
 
 -- ---- adding
@@ -83,16 +83,16 @@ module _ (d : Desk) (j : Stream) where
     -- the row with j, of which one more is held
     pub add-stream-row : (row : List Stream) → row ≡ streamRow (withStream j (streamsIn d))
         → withStreamRow d row (d .nstreams + 1)
-        ≡ besideStairs d (opened (portIn d) (slotsIn d) (withStream j (streamsIn d)))
+        ≡ keepingStairs d (opened (portIn d) (slotsIn d) (withStream j (streamsIn d)))
     add-stream-row row r =
         streams-set d h row (d .nstreams + 1) (withStream j (streamsIn d)) r
         (omega (arith, h .streams-count, length-insertBy (λ x. x .id) j (streamsIn d)))
 
 pub add-stream-stairs : (d : Desk) (j : Stream) → Fit d → (e : Plan) → addStream j (held d) ≡ accepted e
-    → besideStairs d e ≡ deskOf e
+    → keepingStairs d e ≡ deskOf e
 add-stream-stairs d j f e a = go (d .opened) refl
   where
-    go : (b : Bool) → d .opened ≡ b → besideStairs d e ≡ deskOf e
+    go : (b : Bool) → d .opened ≡ b → keepingStairs d e ≡ deskOf e
     go false o = absurd (accepted≢refused (sym a ∙ add-stream-out-of-turn d j o))
     go true o =
         let h = open-desk d (fit-but-stairs d f) o in
@@ -127,7 +127,8 @@ module _ (d : Desk) (id : ℕ) where
 
     -- the row without the stream, of which one less is held
     pub remove-stream-row : p < d .nstreams → (row : List Stream) → row ≡ streamRow (without p (streamsIn d))
-        → withStreamRow d row (d .nstreams - 1) ≡ besideStairs d (opened (portIn d) (slotsIn d) (without p (streamsIn d)))
+        → withStreamRow d row (d .nstreams - 1)
+        ≡ keepingStairs d (opened (portIn d) (slotsIn d) (without p (streamsIn d)))
     remove-stream-row n row r =
         let c = h .streams-count in
         streams-set d h row (d .nstreams - 1) (without p (streamsIn d)) r

@@ -2,6 +2,8 @@
 use mathlib.Core.Path.{_≡_}
 use mathlib.Core.List.{List}
 use Prim.Native.Nat.{ℕ}
+use lib.ListN.{take}
+use Rattle.meaning.specs.declared.Port.{Port}
 use Rattle.meaning.specs.declared.Slot.{Slot}
 use Rattle.meaning.specs.declared.Stream.{Stream}
 use Rattle.meaning.specs.declared.Refusal.{Refusal}
@@ -49,8 +51,8 @@ withStreamRow d row n =
     }
 
 -- the one struct of a desk of document 01, but with the stairs that d has
-unfoldable pub besideStairs : Desk → Plan → Desk
-besideStairs d e =
+unfoldable pub keepingStairs : Desk → Plan → Desk
+keepingStairs d e =
     record {
       opened = deskOf e .opened;
       rate = deskOf e .rate;
@@ -69,7 +71,7 @@ besideStairs d e =
 -- a desk that is fit but for its stairs
 pub record FitButStairs (d : Desk) : Type 0 where
   pub sound : SoundDesk (held d)
-  pub canonical : d ≡ besideStairs d (held d)
+  pub canonical : d ≡ keepingStairs d (held d)
 
 -- ---- replies
 
@@ -80,5 +82,5 @@ abbrev pub refusing : Desk → Refusal → EditReply
 refusing d why = record { verdict = Refused why; desk = d }
 
 -- what is handed back where the stairs are left as d has them
-abbrev pub heldReply : Desk → Reply (Unit {0}) → EditReply
-heldReply d r = record { verdict = verdictOf (r .answer); desk = besideStairs d (r .desk) }
+abbrev pub holdReply : Desk → Reply (Unit {0}) → EditReply
+holdReply d r = record { verdict = verdictOf (r .answer); desk = keepingStairs d (r .desk) }

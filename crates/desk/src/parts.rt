@@ -2,7 +2,7 @@
 ghost use mathlib.Core.Path.{_≡_};
 ghost use mathlib.Core.Bool.{true};
 ghost use Rattle.meaning.specs.Runs.{gateOf};
-ghost use Rattle.desk.specs.Desks.{held, deskOf};
+ghost use Rattle.desk.specs.Desks.{held, deskOf, Fit};
 ghost use Rattle.desk.specs.Desks.{portIn, streamsIn};
 ghost use Rattle.desk.specs.Edits.{FitButStairs, accepting, refusing};
 use crate::Desk;
@@ -45,7 +45,7 @@ pub fn gate_of(d: Desk) -> Gate
 // The desk with the stairs of its gate numbers and slots, whatever its stairs were.
 pub fn with_stairs(d: Desk) -> Desk
     requires { ⌜ FitButStairs d × (d .opened ≡ true) ⌝ }
-    ensures { λ r. ⌜ r ≡ deskOf (held d) ⌝ }
+    ensures { λ r. ⌜ (r ≡ deskOf (held d)) × Fit r ⌝ }
 {
     let g = gate_of(d);
     let slots = d.slots;

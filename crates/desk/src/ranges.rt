@@ -71,9 +71,9 @@ pub fn narrow_port(p: PortNumbers) -> Port
     }
 }
 
-// The numbers of a slot in 32 bits; its end is at most the cycle, which is a number of 32 bits.
-pub fn narrow_slot(cycle: u32, start: u64, end: u64) -> Slot
-    requires { ⌜ inRange (slotRanges cycle (slotOf start end)) ≡ true ⌝ }
+// The numbers of a slot in 32 bits.
+pub fn narrow_slot(start: u64, end: u64) -> Slot
+    requires { ⌜ (start < 4_294_967_296) × (end < 4_294_967_296) ⌝ }
     ensures { λ r. ⌜ r ≡ slotOf start end ⌝ }
 {
     Slot {

@@ -3,7 +3,7 @@ ghost use mathlib.Core.Path.{_≡_};
 ghost use Rattle.meaning.specs.Desks.{edited};
 ghost use Rattle.meaning.specs.Calls.{addSlot, removeSlot};
 ghost use Rattle.desk.specs.Desks.{held, Fit, slotOf, editReply};
-ghost use Rattle.desk.specs.Edits.{withSlotRow, FitButStairs, heldReply};
+ghost use Rattle.desk.specs.Edits.{withSlotRow, FitButStairs, holdReply};
 use crate::Desk;
 use crate::EditReply;
 use crate::Verdict;
@@ -26,10 +26,11 @@ fn with_slots(d: Desk, row: [Slot; 32], n: usize) -> Desk
     e
 }
 
-// The slot held beside the others; the stairs are left as they were.
+// The slots' part of adding a slot: it is held beside the others. The stairs are left as they were, so that a reader of
+// whole plans can build them once, behind its last field.
 pub fn hold_slot(d: Desk, start: u64, end: u64) -> EditReply
     requires { ⌜ FitButStairs d ⌝ }
-    ensures { λ r. ⌜ (r ≡ heldReply d (edited (held d) (addSlot (slotOf start end) (held d))))
+    ensures { λ r. ⌜ (r ≡ holdReply d (edited (held d) (addSlot (slotOf start end) (held d))))
         × FitButStairs (r .desk) ⌝ }
 {
     if !d.opened {
@@ -38,12 +39,12 @@ pub fn hold_slot(d: Desk, start: u64, end: u64) -> EditReply
     if !slot_in_range(d.cycle, start, end) {
         return refuse(d, Refusal::OutOfRange);
     }
+    let s = narrow_slot(start, end);
+    let slots = d.slots;
     let n = d.nslots;
     if 32 <= n {
         return refuse(d, Refusal::Full);
     }
-    let slots = d.slots;
-    let s = narrow_slot(d.cycle, start, end);
     if rows::overlaps_any(slots, n, s) {
         return refuse(d, Refusal::Overlap);
     }

@@ -3,7 +3,7 @@ ghost use mathlib.Core.Path.{_≡_};
 ghost use Rattle.meaning.specs.Desks.{edited};
 ghost use Rattle.meaning.specs.Calls.{addStream, removeStream};
 ghost use Rattle.desk.specs.Desks.{held, Fit, streamOf, editReply};
-ghost use Rattle.desk.specs.Edits.{withStreamRow, FitButStairs, heldReply};
+ghost use Rattle.desk.specs.Edits.{withStreamRow, FitButStairs, holdReply};
 use crate::Desk;
 use crate::EditReply;
 use crate::StreamNumbers;
@@ -24,10 +24,10 @@ fn with_streams(d: Desk, row: [Stream; 64], n: usize) -> Desk
     e
 }
 
-// The stream held beside the others, whatever the stairs are; they are left as they were.
+// The stream held beside the others, whatever the stairs are: they are left as they were.
 pub fn hold_stream(d: Desk, j: StreamNumbers) -> EditReply
     requires { ⌜ FitButStairs d ⌝ }
-    ensures { λ r. ⌜ (r ≡ heldReply d (edited (held d) (addStream (streamOf j) (held d))))
+    ensures { λ r. ⌜ (r ≡ holdReply d (edited (held d) (addStream (streamOf j) (held d))))
         × FitButStairs (r .desk) ⌝ }
 {
     if !d.opened {
@@ -36,16 +36,17 @@ pub fn hold_stream(d: Desk, j: StreamNumbers) -> EditReply
     if !stream_in_range(j) {
         return refuse(d, Refusal::OutOfRange);
     }
+    let stream = narrow_stream(j);
+    let streams = d.streams;
     let n = d.nstreams;
     if 64 <= n {
         return refuse(d, Refusal::Full);
     }
-    let streams = d.streams;
     let p = rows::stream_place(streams, n, j.id);
     if p < n {
         return refuse(d, Refusal::IdHeld);
     }
-    let row = rows::insert_stream(streams, n, narrow_stream(j));
+    let row = rows::insert_stream(streams, n, stream);
     accept(with_streams(d, row, n + 1))
 }
 

@@ -4,10 +4,7 @@ use mathlib.Core.Path.{refl}
 use Rattle.meaning.specs.Runs.{gateOf}
 use Rattle.desk.proofs.parts.gate_of.Statement.{statement}
 use Rattle.desk.proofs.parts.gate_of.Tie as tie
-use Rattle.desk.proofs.parts.gate_of.Reads as reads
-use Rattle.desk.proofs.parts.gate_of.Lts as lts
 
--- src/parts.rt:34:1
 returns : tie.Need-returns
 unfolding gateOf
 returns c = refl

@@ -1,6 +1,9 @@
 -- `desk::parts::with_stairs` meets its contract: the runs of the slots held, and the stairs of these runs.
 -- Assumes nothing.
+use mathlib.Core.Path.{sym, subst}
 use borrow.Author.Needs.{needs}
+use Rattle.desk.specs.Desks.{held, Fit}
+use Rattle.desk.proofs.Held.{fit-of}
 use Rattle.desk.proofs.Opened.{Open, open-desk}
 use Rattle.desk.proofs.StairLaws.{may-find, may-build, stairs-set}
 use Rattle.desk.proofs.parts.with_stairs.Statement.{statement}
@@ -29,7 +32,9 @@ returns c =
     let f = t .before .before in
     let g = f .before .before in
     let b = g .before in
-    stairs-set (b .args .d) (open-here b) _ (g .gate-of .ensures) _ (f .find-runs .ensures) _ (t .build .ensures)
+    let d = b .args .d in
+    let e = stairs-set d (open-here b) _ (g .gate-of .ensures) _ (f .find-runs .ensures) _ (t .build .ensures) in
+    (e, subst Fit (sym e) (fit-of (held d) (b .pre .0 .sound)))
 
 pub with-stairs-spec : {M : Type 1} → statement M
 with-stairs-spec = tie.close (tie.spec gate-of-requires find-runs-requires build-requires returns)

@@ -8,10 +8,7 @@ use Rattle.desk.specs.Desks.{filledDesk, deskOf}
 use Rattle.desk.proofs.Held.{fit-bare}
 use Rattle.desk.proofs.ports.bare.Statement.{statement}
 use Rattle.desk.proofs.ports.bare.Tie as tie
-use Rattle.desk.proofs.ports.bare.Reads as reads
-use Rattle.desk.proofs.ports.bare.Lts as lts
 
--- src/ports.rt:18:1
 returns : tie.Need-returns
 unfolding deskOf filledDesk slotRow streamRow tableOf filled
 returns c = (refl, fit-bare)

@@ -1,6 +1,7 @@
 -- `desk::ports::open_port` meets its contract: each answer is the meaning's, by the tests that led to it.
 -- Assumes nothing.
-use mathlib.Core.Path.{sym, ap, _∙_}
+use mathlib.Core.Path.{_≡_, sym, ap, _∙_}
+use mathlib.Core.Bool.{true}
 use mathlib.Core.List.{[]}
 use borrow.Author.Needs.{needs}
 use borrow.Author.Tests.{not-true, not-false}
@@ -13,34 +14,24 @@ use Rattle.desk.proofs.Answers.{refusal-edits, acceptance-edits}
 use Rattle.desk.proofs.PortLaws.{open-out-of-turn, open-out-of-range, open-accepts, port-set}
 use Rattle.desk.proofs.ports.open_port.Statement.{statement}
 use Rattle.desk.proofs.ports.open_port.Tie as tie
-use Rattle.desk.proofs.ports.open_port.Reads as reads
-use Rattle.desk.proofs.ports.open_port.Lts as lts
-use Rattle.desk.proofs.parts.accept.Reads as accept-reads
-use Rattle.desk.proofs.parts.refuse.Reads as refuse-reads
-use Rattle.desk.proofs.ranges.narrow_port.Reads as narrow-port-reads
-use Rattle.desk.proofs.ranges.port_in_range.Reads as port-in-range-reads
 
--- src/ports.rt:52:9
 refuse-requires : tie.Need-refuse-requires
 refuse-requires c κs = search needs
 
--- src/ports.rt:52:9
 returns : tie.Need-returns
 returns c =
+    let is-open : _ ≡ true = c .before .if1 .taken in
     let b = c .before .before in
     let d = b .args .d in
     refusal-edits d _ _ _ (b .pre) (c .refuse .ensures)
-    (open-out-of-turn d (portOf (b .args .p)) (open-desk d (fit-but-stairs d (b .pre)) (c .before .if1 .taken)))
+    (open-out-of-turn d (portOf (b .args .p)) (open-desk d (fit-but-stairs d (b .pre)) is-open))
 
--- src/ports.rt:54:9
 port-in-range-requires : tie.Need-port-in-range-requires
 port-in-range-requires c κs = search needs
 
--- src/ports.rt:55:9
 refuse-requires-2 : tie.Need-refuse-requires-2
 refuse-requires-2 c κs = search needs
 
--- src/ports.rt:55:9
 returns-2 : tie.Need-returns-2
 returns-2 c =
     let t = c .before .before in
@@ -50,15 +41,12 @@ returns-2 c =
     (open-out-of-range d (portOf (b .args .p)) (t .before .if1 .left)
     (sym (t .port-in-range .ensures) ∙ not-true _ (c .before .if2 .taken)))
 
--- src/ports.rt:57:9
 narrow-port-requires : tie.Need-narrow-port-requires
 narrow-port-requires c κs = sym (c .before .port-in-range .ensures) ∙ not-false _ (c .if2 .left)
 
--- src/ports.rt:64:5
 accept-requires : tie.Need-accept-requires
 accept-requires c κs = search needs
 
--- src/ports.rt:47:1
 returns-3 : tie.Need-returns-3
 returns-3 c =
     let t = c .before .before .before in

@@ -6,9 +6,6 @@ use Rattle.meaning.proofs.InRange.{port-in}
 use Rattle.desk.specs.Desks.{portOf}
 use Rattle.desk.proofs.ranges.narrow_port.Statement.{statement}
 use Rattle.desk.proofs.ranges.narrow_port.Tie as tie
-use Rattle.desk.proofs.ranges.narrow_port.Reads as reads
-use Rattle.desk.proofs.ranges.narrow_port.Lts as lts
-use Rattle.desk.proofs.ranges.narrow.Reads as narrow-reads
 
 -- each number fits 32 bits
 in-32-bits : (c : tie.Start)
@@ -21,19 +18,15 @@ in-32-bits c =
 narrow-requires : tie.Need-narrow-requires
 narrow-requires c κs = in-32-bits c .0
 
--- src/ranges.rt:68:16
 narrow-requires-2 : tie.Need-narrow-requires-2
 narrow-requires-2 c κs = in-32-bits (c .before) .1
 
--- src/ranges.rt:69:16
 narrow-requires-3 : tie.Need-narrow-requires-3
 narrow-requires-3 c κs = in-32-bits (c .before .before) .2
 
--- src/ranges.rt:70:17
 narrow-requires-4 : tie.Need-narrow-requires-4
 narrow-requires-4 c κs = in-32-bits (c .before .before .before) .3
 
--- src/ranges.rt:62:1
 returns : tie.Need-returns
 returns c =
     λ i. record {

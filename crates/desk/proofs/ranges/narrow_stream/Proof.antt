@@ -6,9 +6,6 @@ use Rattle.meaning.proofs.InRange.{stream-in}
 use Rattle.desk.specs.Desks.{streamOf}
 use Rattle.desk.proofs.ranges.narrow_stream.Statement.{statement}
 use Rattle.desk.proofs.ranges.narrow_stream.Tie as tie
-use Rattle.desk.proofs.ranges.narrow_stream.Reads as reads
-use Rattle.desk.proofs.ranges.narrow_stream.Lts as lts
-use Rattle.desk.proofs.ranges.narrow.Reads as narrow-reads
 
 -- each number fits 32 bits
 in-32-bits : (c : tie.Start)
@@ -22,27 +19,21 @@ in-32-bits c =
 narrow-requires : tie.Need-narrow-requires
 narrow-requires c κs = in-32-bits c .0
 
--- src/ranges.rt:66:19
 narrow-requires-2 : tie.Need-narrow-requires-2
 narrow-requires-2 c κs = in-32-bits (c .before) .1
 
--- src/ranges.rt:67:17
 narrow-requires-3 : tie.Need-narrow-requires-3
 narrow-requires-3 c κs = in-32-bits (c .before .before) .2
 
--- src/ranges.rt:68:17
 narrow-requires-4 : tie.Need-narrow-requires-4
 narrow-requires-4 c κs = in-32-bits (c .before .before .before) .3
 
--- src/ranges.rt:69:17
 narrow-requires-5 : tie.Need-narrow-requires-5
 narrow-requires-5 c κs = in-32-bits (c .before .before .before .before) .4
 
--- src/ranges.rt:70:19
 narrow-requires-6 : tie.Need-narrow-requires-6
 narrow-requires-6 c κs = in-32-bits (c .before .before .before .before .before) .5
 
--- src/ranges.rt:60:1
 returns : tie.Need-returns
 returns c =
     let n = c .before .before .before in

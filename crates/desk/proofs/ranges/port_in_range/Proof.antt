@@ -23,8 +23,11 @@ within-requires-4 c κs = search needs
 returns : tie.Need-returns
 unfolding portRanges
 returns c =
-    let w = c .before .before in
-    (λ i. w .before .within .ensures i && w .within2 .ensures i && c .before .within3 .ensures i && c .within4 .ensures i)
+    (λ i.
+    c .before .before .before .within .ensures i
+    && c .before .before .within2 .ensures i
+    && c .before .within3 .ensures i
+    && c .within4 .ensures i)
     ∙ all-hold _ _
 
 pub port-in-range-spec : {M : Type 1} → statement M

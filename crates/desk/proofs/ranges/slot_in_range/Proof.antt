@@ -1,4 +1,4 @@
--- `desk::ranges::slot_in_range` meets its contract: its tests are those of `slotRanges`, but that a start is at least 0.
+-- `desk::ranges::slot_in_range` meets its contract: its tests are those of `slotRanges`, and any start is at least 0.
 -- Assumes nothing.
 use mathlib.Core.Bool.{and-true}
 use Prim.Native.Nat.{zero-le}
@@ -7,10 +7,7 @@ use Rattle.laws.specs.Lists.{every}
 use Rattle.meaning.specs.Ranges.{slotRanges}
 use Rattle.desk.proofs.ranges.slot_in_range.Statement.{statement}
 use Rattle.desk.proofs.ranges.slot_in_range.Tie as tie
-use Rattle.desk.proofs.ranges.slot_in_range.Reads as reads
-use Rattle.desk.proofs.ranges.slot_in_range.Lts as lts
 
--- src/ranges.rt:33:1
 returns : tie.Need-returns
 unfolding slotRanges every
 returns c = rw (le-leb 0 (c .args .start) zero-le) (simp and-true)

@@ -7,35 +7,25 @@ use Rattle.meaning.specs.Ranges.{streamRanges}
 use Rattle.desk.proofs.RangeLaws.{all-hold}
 use Rattle.desk.proofs.ranges.stream_in_range.Statement.{statement}
 use Rattle.desk.proofs.ranges.stream_in_range.Tie as tie
-use Rattle.desk.proofs.ranges.stream_in_range.Reads as reads
-use Rattle.desk.proofs.ranges.stream_in_range.Lts as lts
-use Rattle.desk.proofs.ranges.within.Reads as within-reads
 
--- src/ranges.rt:43:5
 within-requires : tie.Need-within-requires
 within-requires c κs = search needs
 
--- src/ranges.rt:44:11
 within-requires-2 : tie.Need-within-requires-2
 within-requires-2 c κs = search needs
 
--- src/ranges.rt:45:11
 within-requires-3 : tie.Need-within-requires-3
 within-requires-3 c κs = search needs
 
--- src/ranges.rt:46:11
 within-requires-4 : tie.Need-within-requires-4
 within-requires-4 c κs = search needs
 
--- src/ranges.rt:47:11
 within-requires-5 : tie.Need-within-requires-5
 within-requires-5 c κs = search needs
 
--- src/ranges.rt:48:11
 within-requires-6 : tie.Need-within-requires-6
 within-requires-6 c κs = search needs
 
--- src/ranges.rt:40:1
 returns : tie.Need-returns
 unfolding streamRanges
 returns c =

@@ -37,7 +37,7 @@ returns c =
     let t = c .before .before in
     let m = t .before .before .before in
     accepted-edits (m .before .args .d) _ _ (m .hold-slot .ensures) _ (t .enum-told .given .1)
-    (c .accept .ensures ∙ ap accepting (c .before .with-stairs .ensures))
+    (c .accept .ensures ∙ ap accepting (c .before .with-stairs .ensures .0))
 
 returns-2 : tie.Need-returns-2
 returns-2 c =

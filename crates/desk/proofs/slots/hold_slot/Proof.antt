@@ -2,6 +2,7 @@
 -- Assumes nothing.
 use mathlib.Core.Path.{_≡_, sym, ap, _∙_}
 use mathlib.Core.Bool.{true}
+use Prim.Native.Nat.{_≤_}
 use borrow.Author.Needs.{needs}
 use borrow.Author.Tests.{not-true, not-false}
 use Rattle.laws.specs.Lists.{any}
@@ -19,11 +20,9 @@ use Rattle.desk.proofs.Opened.{Open, open-desk}
 use Rattle.desk.proofs.Answers.{refusal-holds, acceptance-holds}
 use Rattle.desk.proofs.SlotLaws.{add-slot-out-of-turn, add-slot-out-of-range, add-slot-full, add-slot-overlap}
 use Rattle.desk.proofs.SlotLaws.{add-slot-no-free-cell, add-slot-accepts, add-slot-row, may-test-free}
-use Rattle.desk.proofs.SlotLaws.{free-tested}
+use Rattle.desk.proofs.SlotLaws.{slot-in-32-bits, free-tested}
 use Rattle.desk.proofs.slots.hold_slot.Statement.{statement}
 use Rattle.desk.proofs.slots.hold_slot.Tie as tie
-
--- ---- the desk and the slot, and what each test has shown of them
 
 abbrev deskAt : tie.Start → Desk
 deskAt c = c .args .d
@@ -31,45 +30,16 @@ deskAt c = c .args .d
 abbrev slotAt : tie.Start → Slot
 slotAt c = slotOf (c .args .start) (c .args .end)
 
--- places before
-abbrev began : tie.Else2 → tie.Start
-began c = c .before .before .before .before
-
-abbrev roomy : tie.After-overlaps-any → tie.Else3
-roomy c = c .before .before .before
-
-abbrev clear : tie.After-gate-of → tie.Else4
-clear c = c .before .before
+-- ---- 4, 5, 7: the desk is open, the numbers are in range, there is room
 
 open-at : (c : tie.Else1) → Open (deskAt (c .before .before))
 open-at c = open-desk _ (c .before .before .pre) (not-false _ (c .if1 .left))
 
+abbrev began : tie.Else2 → tie.Start
+began c = c .before .before .before .before
+
 in-range : (c : tie.Else2) → inRange (slotRanges (deskAt (began c) .cycle) (slotAt (began c))) ≡ true
 in-range c = sym (c .before .slot-in-range .ensures) ∙ not-false _ (c .if2 .left)
-
--- the slot of 32 bits is the slot
-overlap-tested : (c : tie.After-overlaps-any) → let b = began (roomy c .before) in
-    any (overlaps (slotAt b)) (slotsIn (deskAt b)) ≡ c .overlaps-any .result
-overlap-tested c =
-    ap (λ (s : Slot). any (overlaps s) (slotsIn (deskAt (began (roomy c .before))))) (sym (c .before .narrow-slot .ensures))
-    ∙ sym (c .overlaps-any .ensures)
-
-row-is : (c : tie.After-insert-slot) → let b = began (roomy (c .before .before) .before) in
-    c .insert-slot .result ≡ slotRow (withSlot (slotAt b) (slotsIn (deskAt b)))
-row-is c =
-    let t = c .before .before in
-    c .insert-slot .ensures
-    ∙ ap (λ (s : Slot). slotRow (withSlot s (slotsIn (deskAt (began (roomy t .before)))))) (t .before .narrow-slot .ensures)
-
-free-is : (c : tie.After-some-free) → let b = began (roomy (clear (c .before) .before) .before) in
-    hasFree (gateOf (portIn (deskAt b)) (streamsIn (deskAt b))) (withSlot (slotAt b) (slotsIn (deskAt b)))
-    ≡ c .some-free .result
-free-is c =
-    let e = roomy (clear (c .before) .before) .before in
-    free-tested (deskAt (began e)) (slotAt (began e)) (open-at (e .before .before)) _ (row-is (c .before .before)) _
-    (c .before .gate-of .ensures) _ (c .some-free .ensures)
-
--- ---- needs
 
 refuse-requires : tie.Need-refuse-requires
 refuse-requires c κs = search needs
@@ -94,18 +64,41 @@ returns-2 c =
     (add-slot-out-of-range (deskAt b) (slotAt b) (open-at (t .before))
     (sym (t .slot-in-range .ensures) ∙ not-true _ (c .before .if2 .taken)))
 
+narrow-slot-requires : tie.Need-narrow-slot-requires
+narrow-slot-requires c κs =
+    let b = began c in
+    slot-in-32-bits (deskAt b) (slotAt b) (open-at (c .before .before)) (in-range c)
+
 refuse-requires-3 : tie.Need-refuse-requires-3
 refuse-requires-3 c κs = search needs
 
 returns-3 : tie.Need-returns-3
 returns-3 c =
-    let e = c .before .before in
+    let full : 32 ≤ _ = c .before .if3 .taken in
+    let e = c .before .before .before .before in
     let b = began e in
     refusal-holds (deskAt b) _ _ _ (b .pre) (c .refuse3 .ensures)
-    (add-slot-full (deskAt b) (slotAt b) (open-at (e .before .before)) (in-range e) (c .before .if3 .taken))
+    (add-slot-full (deskAt b) (slotAt b) (open-at (e .before .before)) (in-range e) full)
 
-narrow-slot-requires : tie.Need-narrow-slot-requires
-narrow-slot-requires c κs = in-range (c .before .before)
+-- ---- 6: no slot held overlaps it; the slot of 32 bits is the slot
+
+abbrev ranged : tie.After-overlaps-any → tie.Else2
+ranged c = c .before .before .before .before
+
+overlap-tested : (c : tie.After-overlaps-any) → let b = began (ranged c) in
+    any (overlaps (slotAt b)) (slotsIn (deskAt b)) ≡ c .overlaps-any .result
+overlap-tested c =
+    ap (λ (s : Slot). any (overlaps s) (slotsIn (deskAt (began (ranged c)))))
+    (sym (c .before .before .before .narrow-slot .ensures))
+    ∙ sym (c .overlaps-any .ensures)
+
+row-is : (c : tie.After-insert-slot) → let b = began (ranged (c .before .before)) in
+    c .insert-slot .result ≡ slotRow (withSlot (slotAt b) (slotsIn (deskAt b)))
+row-is c =
+    let t = c .before .before in
+    c .insert-slot .ensures
+    ∙ ap (λ (s : Slot). slotRow (withSlot s (slotsIn (deskAt (began (ranged t))))))
+    (t .before .before .before .narrow-slot .ensures)
 
 overlaps-any-requires : tie.Need-overlaps-any-requires
 overlaps-any-requires c κs = search needs
@@ -116,16 +109,27 @@ refuse-requires-4 c κs = search needs
 returns-4 : tie.Need-returns-4
 returns-4 c =
     let t = c .before .before in
-    let e = roomy t .before in
+    let e = ranged t in
     let b = began e in
     refusal-holds (deskAt b) _ _ _ (b .pre) (c .refuse4 .ensures)
-    (add-slot-overlap (deskAt b) (slotAt b) (open-at (e .before .before)) (in-range e) (roomy t .if3 .left)
+    (add-slot-overlap (deskAt b) (slotAt b) (open-at (e .before .before)) (in-range e) (t .before .if3 .left)
     (overlap-tested t ∙ c .before .if4 .taken))
 
 insert-slot-requires : tie.Need-insert-slot-requires
-insert-slot-requires c κs =
-    let r = roomy (c .before) in
-    (r .if3 .left, open-at (r .before .before .before) .slots-row)
+insert-slot-requires c κs = (c .before .before .if3 .left, open-at (ranged (c .before) .before .before) .slots-row)
+
+-- ---- 10: a cell is left free
+
+abbrev clear : tie.After-gate-of → tie.Else4
+clear c = c .before .before
+
+free-is : (c : tie.After-some-free) → let b = began (ranged (clear (c .before) .before)) in
+    hasFree (gateOf (portIn (deskAt b)) (streamsIn (deskAt b))) (withSlot (slotAt b) (slotsIn (deskAt b)))
+    ≡ c .some-free .result
+free-is c =
+    let e = ranged (clear (c .before) .before) in
+    free-tested (deskAt (began e)) (slotAt (began e)) (open-at (e .before .before)) _ (row-is (c .before .before)) _
+    (c .before .gate-of .ensures) _ (c .some-free .ensures)
 
 gate-of-requires : tie.Need-gate-of-requires
 gate-of-requires c κs = search needs
@@ -136,9 +140,9 @@ add-some-free c = search needs
 some-free-requires : tie.Need-some-free-requires
 some-free-requires c κs =
     let k = clear c in
-    let e = roomy (k .before) .before in
+    let e = ranged (k .before) in
     may-test-free (deskAt (began e)) (slotAt (began e)) (open-at (e .before .before)) _ (row-is (c .before)) _
-    (c .gate-of .ensures) (in-range e) (roomy (k .before) .if3 .left) (overlap-tested (k .before) ∙ k .if4 .left)
+    (c .gate-of .ensures) (in-range e) (k .before .before .if3 .left) (overlap-tested (k .before) ∙ k .if4 .left)
 
 refuse-requires-5 : tie.Need-refuse-requires-5
 refuse-requires-5 c κs = search needs
@@ -147,11 +151,12 @@ returns-5 : tie.Need-returns-5
 returns-5 c =
     let f = c .before .before in
     let k = clear (f .before) in
-    let e = roomy (k .before) .before in
+    let e = ranged (k .before) in
     let b = began e in
     refusal-holds (deskAt b) _ _ _ (b .pre) (c .refuse5 .ensures)
-    (add-slot-no-free-cell (deskAt b) (slotAt b) (open-at (e .before .before)) (in-range e) (roomy (k .before) .if3 .left)
-    (overlap-tested (k .before) ∙ k .if4 .left) (free-is f ∙ not-true _ (c .before .if5 .taken)))
+    (add-slot-no-free-cell (deskAt b) (slotAt b) (open-at (e .before .before)) (in-range e)
+    (k .before .before .if3 .left) (overlap-tested (k .before) ∙ k .if4 .left)
+    (free-is f ∙ not-true _ (c .before .if5 .taken)))
 
 add-with-slots : tie.Need-add-with-slots
 add-with-slots c = search needs
@@ -167,11 +172,11 @@ returns-6 c =
     let l = c .before .before in
     let f = l .before in
     let k = clear (f .before) in
-    let e = roomy (k .before) .before in
+    let e = ranged (k .before) in
     let b = began e in
     let h = open-at (e .before .before) in
     let a =
-    add-slot-accepts (deskAt b) (slotAt b) h (in-range e) (roomy (k .before) .if3 .left)
+    add-slot-accepts (deskAt b) (slotAt b) h (in-range e) (k .before .before .if3 .left)
     (overlap-tested (k .before) ∙ k .if4 .left) (free-is f ∙ not-false _ (l .if5 .left)) in
     acceptance-holds (deskAt b) _ _ _ (add-slot-sound (slotAt b) (held (deskAt b)) _ (b .pre .sound) a)
     (c .accept .ensures
@@ -188,9 +193,9 @@ hold-slot-spec =
     slot-in-range-requires
     refuse-requires-2
     returns-2
+    narrow-slot-requires
     refuse-requires-3
     returns-3
-    narrow-slot-requires
     overlaps-any-requires
     refuse-requires-4
     returns-4

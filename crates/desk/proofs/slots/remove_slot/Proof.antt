@@ -14,8 +14,8 @@ use Rattle.meaning.proofs.Sounds.{remove-slot-sound}
 use Rattle.desk.specs.declared.Desk.{Desk}
 use Rattle.desk.specs.Desks.{held}
 use Rattle.desk.specs.Desks.{portIn, slotsIn, streamsIn}
-use Rattle.desk.specs.Edits.{besideStairs, FitButStairs, accepting}
-use Rattle.desk.proofs.Opened.{Open, open-desk, fit-but-stairs, beside-fit, beside-open}
+use Rattle.desk.specs.Edits.{keepingStairs, FitButStairs, accepting}
+use Rattle.desk.proofs.Opened.{Open, open-desk, fit-but-stairs, keeping-fit, keeping-open}
 use Rattle.desk.proofs.Answers.{refusal-edits, stairs-edit}
 use Rattle.desk.proofs.SlotLaws.{remove-slot-out-of-turn, remove-slot-not-held, remove-slot-accepts}
 use Rattle.desk.proofs.SlotLaws.{remove-slot-row}
@@ -51,7 +51,7 @@ sound-less c =
     remove-slot-sound (b .args .start) (held (deskAt b)) _ (b .pre .sound) (accepts c)
 
 made : (c : tie.After-with-slots)
-    → c .with-slots .result ≡ besideStairs (deskAt (began (c .before .before .before))) (lessAt (c .before .before))
+    → c .with-slots .result ≡ keepingStairs (deskAt (began (c .before .before .before))) (lessAt (c .before .before))
 made c =
     let e = c .before .before in
     let t = e .before in
@@ -100,7 +100,7 @@ with-stairs-requires c κs =
     let e = c .before .before in
     let d = deskAt (began (e .before)) in
     subst (λ (x : Desk). FitButStairs x × (x .opened ≡ true)) (sym (made c))
-    (beside-fit d (lessAt e) (sound-less e), beside-open d _ _ _)
+    (keeping-fit d (lessAt e) (sound-less e), keeping-open d _ _ _)
 
 accept-requires : tie.Need-accept-requires
 accept-requires c κs = search needs
@@ -110,7 +110,7 @@ returns-3 c =
     let w = c .before .before in
     let e = w .before .before in
     stairs-edit (deskAt (began (e .before))) _ _ (lessAt e) _ (sound-less e) (made w)
-    (c .accept .ensures ∙ ap accepting (c .before .with-stairs .ensures)) (accepts e)
+    (c .accept .ensures ∙ ap accepting (c .before .with-stairs .ensures .0)) (accepts e)
 
 pub remove-slot-spec : {M : Type 1} → statement M
 remove-slot-spec =
