@@ -3,7 +3,7 @@
 use mathlib.Core.Path.{_≡_, refl, sym, ap, ap₂, _∙_}
 use mathlib.Core.Bool.{Bool, true, false, cond}
 use mathlib.Core.List.{List}
-use Prim.Native.Nat.{ℕ, zero, suc, _+_, _*_, _≤_, _<_, zero-le}
+use Prim.Native.Nat.{ℕ, suc, _+_, _*_, _≤_, _<_, zero-le}
 use native.Mathlib.Nat.{add-zero, le-refl, le-trans, mul-le-mul}
 use native.Mathlib.Omega.{arith}
 use lib.ListN.{length, getD, set, length-set}
@@ -14,7 +14,7 @@ use Rattle.laws.specs.Numbers.{sum}
 use Rattle.laws.proofs.Sums.{sum-ext, sum-add}
 use Rattle.meaning.specs.Arrivals.{mostIn}
 use Rattle.meaning.proofs.Later.{CountedTo, nextOf, counted-at, counted-on, counted-more, counted-all}
-use Rattle.bound.specs.Rows.{rowStream, streamAt, rowLoad, RowsFit, Low, RowsCounted, stepped, gained, Passed}
+use Rattle.bound.specs.Rows.{streamAt, rowLoad, RowsFit, Low, RowsCounted, stepped, gained, Passed}
 use Rattle.bound.proofs.Places.{sum-more, sum-few, set-below}
 use Rattle.bound.proofs.Arriving.{frames-few}
 

@@ -1,16 +1,16 @@
 -- The frames of a busy window, one by one: what is known of each, and the largest response so far.
 -- Assumes nothing.
-use mathlib.Core.Path.{_≡_, refl, sym, ap, ap₂, _∙_, subst}
+use mathlib.Core.Path.{_≡_, sym, ap, ap₂, _∙_, subst}
 use mathlib.Core.List.{List}
 use Prim.Native.Nat.{ℕ, _+_, _-_, _*_, max, _≤_, _<_, zero-le}
-use native.Mathlib.Nat.{le-refl, le-trans, add-zero}
+use native.Mathlib.Nat.{le-refl, add-zero}
 use native.Mathlib.Omega.{arith}
 use Rattle.laws.specs.Numbers.{Least, Mono}
 use Rattle.laws.proofs.Leasts.{Under}
 use Rattle.meaning.specs.declared.Stream.{Stream}
 use Rattle.meaning.specs.Wire.{wireTime}
 use Rattle.meaning.specs.Arrivals.{mostIn, earliest}
-use Rattle.meaning.specs.Response.{busyLoad, waitLoad}
+use Rattle.meaning.specs.Response.{waitLoad}
 use Rattle.meaning.proofs.Arrivals.{counted, most-grows, most-one}
 use Rattle.meaning.proofs.Responses.{wait-room, wait-under, wait-inside, wait-arrived}
 use Rattle.meaning.proofs.Later.{nextOf, early-zero, early-next, early-soon}
@@ -18,7 +18,7 @@ use Rattle.meaning.proofs.FewFrames.{worstOf, worst-none, worst-more}
 use Rattle.meaning.proofs.Demands.{wait-cold, wait-warm}
 use Rattle.bound.specs.Rows.{rowStream, stepped}
 use Rattle.bound.specs.Searches.{rowDemand, Closes}
-use Rattle.bound.specs.Answers.{Beside, BesideIn, WorstFor}
+use Rattle.bound.specs.Answers.{BesideIn, WorstFor}
 use Rattle.bound.proofs.Counting.{stepped-came}
 use Rattle.bound.proofs.RowStreams.{most-own, early-own, wait-rows}
 

@@ -1,13 +1,13 @@
 -- Tries of a search over rows of streams: how large their numbers are, and that they never fall.
 -- Assumes nothing.
-use mathlib.Core.Path.{_≡_, sym, ap, ap₂, _∙_}
+use mathlib.Core.Path.{_≡_, ap}
 use mathlib.Core.List.{List}
 use Prim.Native.Nat.{ℕ, _+_, _*_, _/_, _%_, _≤_, _<_}
 use native.Mathlib.Nat.{le-trans, add-zero, mul-le-mul, mul-le-mul-right}
 use native.Mathlib.Nat.{div-le-self, div-self, div-eq-of-lt, mod-self, mod-lt, mod-eq-of-lt}
 use native.Mathlib.Omega.{arith}
 use lib.ListN.{getD}
-use Rattle.laws.specs.Numbers.{sum, Least, Mono}
+use Rattle.laws.specs.Numbers.{Least, Mono}
 use Rattle.laws.proofs.Sums.{sum-le}
 use Rattle.laws.proofs.Leasts.{Under, under-step, under-least, under-over}
 use Rattle.meaning.specs.Arrivals.{mostIn}

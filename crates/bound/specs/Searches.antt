@@ -1,5 +1,4 @@
 -- Least numbers that close over rows of streams: what a wait and a busy window ask for.
-use mathlib.Core.Path.{_≡_}
 use mathlib.Core.List.{List}
 use Prim.Native.Nat.{ℕ, _+_, _*_, _≤_, _<_}
 use Rattle.laws.specs.Numbers.{Least, Mono}

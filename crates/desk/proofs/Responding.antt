@@ -5,10 +5,8 @@ use mathlib.Core.Bool.{Bool, true, false, cond}
 use mathlib.Core.List.{List, Memᴰ·cast}
 use mathlib.Core.Option.{Option, none, some}
 use Prim.Native.Nat.{ℕ, _+_, _≤_, _<_}
-use native.Mathlib.Nat.{le-trans}
 use native.Mathlib.Omega.{arith}
-use lib.ListN.{length, take, getD}
-use lib.Seq.{getD-take}
+use lib.ListN.{length, getD}
 use lib.Dec.{ltb, eqb}
 use borrow.Author.Tests.{eqb-true, lt-ltb, le-ltb}
 use Rattle.laws.specs.Lists.{any, find, placeBy, without, Mem}
@@ -22,12 +20,11 @@ use Rattle.meaning.specs.Runs.{gateOf}
 use Rattle.meaning.specs.Interference.{interference}
 use Rattle.meaning.specs.Response.{others, lowerWire, bound}
 use Rattle.meaning.specs.Refusals.{Answer, accepted, refused}
-use Rattle.meaning.specs.Desks.{bare, opened, asked}
+use Rattle.meaning.specs.Desks.{opened, asked}
 use Rattle.meaning.specs.Calls.{boundOf, verdict, respond, askResponse}
 use Rattle.meaning.proofs.InRange.{port-in, stream-in}
 use Rattle.meaning.proofs.Gates.{slots-grow, slots-spread}
 use Rattle.meaning.proofs.Windows.{all-at-most-cycle}
-use Rattle.table.specs.Lookup.{allIn}
 use Rattle.table.proofs.Demand.{all-is, rows-give-interference}
 use Rattle.bound.specs.declared.Response.{Response}
 use Rattle.bound.specs.declared.Response.the-variants as Responses

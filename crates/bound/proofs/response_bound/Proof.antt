@@ -1,7 +1,6 @@
 -- `bound::response_bound` meets its contract.
 -- Assumes nothing.
 use Rattle.bound.proofs.Asking.{rows-asked, rows-answered}
-use borrow.Author.Needs.{needs}
 use Rattle.bound.proofs.response_bound.Statement.{statement}
 use Rattle.bound.proofs.response_bound.Tie as tie
 

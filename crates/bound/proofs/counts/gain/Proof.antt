@@ -1,7 +1,6 @@
 -- `bound::counts::gain` meets its contract.
 -- Assumes nothing.
 use native.Mathlib.Omega.{arith}
-use borrow.Author.Needs.{needs}
 use Rattle.bound.proofs.Counting.{gained-came, gained-none}
 use Rattle.bound.proofs.counts.gain.Statement.{statement}
 use Rattle.bound.proofs.counts.gain.Tie as tie

@@ -5,11 +5,9 @@ use lib.ListN.{length, getD}
 use lib.Seq.{getD-take}
 use borrow.Author.Needs.{needs}
 use borrow.Author.Tests.{not-true, not-false}
-use Rattle.meaning.specs.declared.Stream.{Stream}
 use Rattle.rows.specs.Rows.{noStream}
 use Rattle.desk.specs.declared.Desk.{Desk}
 use Rattle.desk.specs.declared.Figure.{Figure}
-use Rattle.desk.specs.declared.FigureReply.{FigureReply}
 use Rattle.desk.specs.Desks.{streamsIn}
 use Rattle.desk.proofs.Opened.{Open, open-desk, fit-but-stairs}
 use Rattle.desk.proofs.Responding.{response-closed, response-not-held, response-open, asks}
