@@ -17,9 +17,11 @@ use Rattle.meaning.specs.Response.{ahead, lowerWire, bound}
 use Rattle.meaning.proofs.Wires.{wire-pos}
 use Rattle.bound.specs.declared.Ahead.{Ahead}
 use Rattle.bound.specs.declared.Response.{Response}
+use Rattle.bound.specs.declared.Sizes.{Sizes}
+use Rattle.bound.specs.declared.Own.{Own}
 use Rattle.bound.specs.Unpacked.{aheadOf}
 use Rattle.bound.specs.Rows.{rowStream, RowIn, RowsFit}
-use Rattle.bound.specs.Searches.{tableV}
+use Rattle.bound.specs.Searches.{tableV, tableOf, OwnFits}
 use Rattle.bound.specs.Answers.{responseOf, StreamFits, Asks, RowsOf, Beside, BoundFor, RowsAsk}
 use Rattle.bound.proofs.Rated.{wire-fits}
 use Rattle.bound.proofs.RowStreams.{row-at}
@@ -99,7 +101,14 @@ module _ (rate cycle : ℕ) (far tot : List ℕ) (m : ℕ) (streams : List Strea
         })
 
     module _ (c : ℕ) (e : c ≡ wireTime rate (own .octets)) where
-      beside : Beside c (own .period) (own .jitter) (a .per) (a .jit) (a .cost) (a .n)
+      -- the numbers that go on
+      abbrev g : Sizes
+      g = record { n = a .n; m = m; cycle = cycle }
+
+      abbrev o : Own
+      o = record { lower = a .lower; wire = c; period = own .period; jitter = own .jitter }
+
+      beside : Beside o (a .per) (a .jit) (a .cost) (a .n)
       beside =
           record {
             rate = rate;
@@ -112,9 +121,19 @@ module _ (rate cycle : ℕ) (far tot : List ℕ) (m : ℕ) (streams : List Strea
             some-period = λ j h. omega (arith, rest-fits j h .period-least);
           }
 
+      own-fits : OwnFits o
+      own-fits =
+          record {
+            lower-most = omega (arith, lower-is, lower-few);
+            wire-least = omega (arith, wire-pos rate (own .octets) (ask .rate-least) (ask .rate-most));
+            wire-most = omega (arith, wire-fits rate (own .octets) (ask .own-fits .octets-most));
+            period-least = ask .own-fits .period-least;
+            period-most = ask .own-fits .period-most;
+            jitter-most = ask .own-fits .jitter-most;
+          }
+
       -- what is asked of the rows is met
-      pub rows-asked :
-          RowsAsk cycle far tot m (a .per) (a .jit) (a .cost) (a .n) (a .lower) c (own .period) (own .jitter)
+      pub rows-asked : RowsAsk far tot g o (a .per) (a .jit) (a .cost)
       rows-asked =
           record {
             table = ask .table;
@@ -122,18 +141,12 @@ module _ (rate cycle : ℕ) (far tot : List ℕ) (m : ℕ) (streams : List Strea
             v-grows = ask .v-grows;
             v-spreads = ask .v-spreads;
             rows-fit = rows-fit;
-            lower-most = omega (arith, lower-is, lower-few);
-            wire-least = omega (arith, wire-pos rate (own .octets) (ask .rate-least) (ask .rate-most));
-            wire-most = omega (arith, wire-fits rate (own .octets) (ask .own-fits .octets-most));
-            period-least = ask .own-fits .period-least;
-            period-most = ask .own-fits .period-most;
-            jitter-most = ask .own-fits .jitter-most;
+            own-fits = own-fits;
             beside = beside;
           }
 
       -- and what is answered of them is the answer
-      pub rows-answered : (r : Response)
-          → BoundFor (tableV cycle far tot m) (a .lower) c (own .period) (own .jitter) (a .per) (a .jit) (a .cost) (a .n) r
+      pub rows-answered : (r : Response) → BoundFor (tableOf far tot g) o (a .per) (a .jit) (a .cost) (a .n) r
           → r ≡ responseOf (bound rate (tableV cycle far tot m) (lowerWire rate own rest) rest own)
       unfolding beside
       rows-answered r for =

@@ -14,10 +14,11 @@ use Rattle.meaning.proofs.Arrivals.{counted, most-grows}
 use Rattle.meaning.proofs.Responses.{endless-iff, bound-some}
 use Rattle.meaning.proofs.FewFrames.{Enough, few-frames}
 use Rattle.bound.specs.declared.Response.the-variants.{Within, Endless}
-use Rattle.bound.specs.Rows.{rowStream, RowIn, RowsFit}
-use Rattle.bound.specs.Searches.{rowBusy, Settled}
+use Rattle.bound.specs.declared.Own.{Own}
+use Rattle.bound.specs.Rows.{RowIn, RowsFit}
+use Rattle.bound.specs.Searches.{OwnFits, ownStream, rowBusy, Settled}
 use Rattle.bound.specs.Answers.{responseOf, Beside, BesideIn, EnoughOf, WorstFor, BoundFor}
-use Rattle.bound.proofs.RowStreams.{most-own, busy-rows, calm-rows, later-own}
+use Rattle.bound.proofs.RowStreams.{most-own, later-own, busy-rows, calm-rows}
 
 -- ---- a row without jitter
 
@@ -35,31 +36,32 @@ calm-fits per jit cost calm n fit none =
 
 -- ---- the answer
 
-module _ (v : ℕ → ℕ) (l c period jitter : ℕ) (per jit cost : List ℕ) (n : ℕ) where
+module _ (v : ℕ → ℕ) (o : Own) (per jit cost : List ℕ) (n : ℕ) where
   -- V(0) is over the horizon
-  pub endless-first : Mono v → 100_000_000 < v 0 → BoundFor v l c period jitter per jit cost n Endless
+  pub endless-first : Mono v → 100_000_000 < v 0 → BoundFor v o per jit cost n Endless
   unfolding responseOf horizon busyLoad
   endless-first v-grows h s =
       ap responseOf
-      (sym (endless-iff (s .rate) v l (s .rest) (s .own) .1 (λ x soon closed. omega (arith, v-grows 0 x zero-le))))
+      (sym (endless-iff (s .rate) v (o .lower) (s .rest) (s .own) .1
+      (λ x soon closed. omega (arith, v-grows 0 x zero-le))))
 
-  module _ (b : ℕ) (busy : Settled (rowBusy v per jit cost n l c period jitter) b) where
+  module _ (b : ℕ) (busy : Settled (rowBusy v per jit cost n o) b) where
     -- no busy window up to the horizon
-    pub endless-window : 100_000_000 < b → BoundFor v l c period jitter per jit cost n Endless
+    pub endless-window : 100_000_000 < b → BoundFor v o per jit cost n Endless
     unfolding responseOf horizon
     endless-window h s =
         ap responseOf
-        (sym (endless-iff (s .rate) v l (s .rest) (s .own) .1
-        (λ x soon. rw (busy-rows v c period jitter per jit cost n s l) at (busy .none h x soon))))
+        (sym (endless-iff (s .rate) v (o .lower) (s .rest) (s .own) .1
+        (λ x soon. rw (busy-rows o per jit cost n s v) at (busy .none h x soon))))
 
-    module _ (soon : b ≤ 100_000_000) (long : 10_000 ≤ period) (all few : ℕ)
-        (all-is : all ≡ mostIn (rowStream period jitter) b + 1 - mostIn (rowStream period jitter) 0) (some-few : few ≤ all) where
-      module _ (s : Beside c period jitter per jit cost n) where
+    module _ (soon : b ≤ 100_000_000) (fits : OwnFits o) (all few : ℕ)
+        (all-is : all ≡ mostIn (ownStream o) b + 1 - mostIn (ownStream o) 0) (some-few : few ≤ all) where
+      module _ (s : Beside o per jit cost n) where
         own-pos : 0 < s .own .period
-        own-pos = omega (arith, s .period-is)
+        own-pos = omega (arith, s .period-is, fits .period-least)
 
-        window-least : Least (busyLoad (s .rate) v l (s .rest) (s .own)) b
-        window-least = rw (busy-rows v c period jitter per jit cost n s l) at (busy .least soon)
+        window-least : Least (busyLoad (s .rate) v (o .lower) (s .rest) (s .own)) b
+        window-least = rw (busy-rows o per jit cost n s v) at (busy .least soon)
 
         -- all frames from the last that can come at 0 on
         all-frames : mostIn (s .own) 0 + all ≡ mostIn (s .own) b + 1
@@ -67,35 +69,35 @@ module _ (v : ℕ → ℕ) (l c period jitter : ℕ) (per jit cost : List ℕ) (
             omega (
               arith,
               all-is,
-              most-own v c period jitter per jit cost n s 0,
-              most-own v c period jitter per jit cost n s b,
+              most-own o per jit cost n s 0,
+              most-own o per jit cost n s b,
               most-grows (counted (s .own) own-pos) 0 b zero-le,
             )
 
-        pub beside-in : BesideIn v l c period jitter per jit cost n few
+        pub beside-in : BesideIn v o per jit cost n few
         beside-in =
             record { beside = s; b = b; busy = window-least; ends = soon; inside = omega (arith, all-frames) }
 
-        enough : (calm : List ℕ) → RowIn 0 0 calm n → EnoughOf v per calm cost n c period all few
-            → Enough (s .rate) v l (s .rest) (s .own) b few
+        enough : (calm : List ℕ) → RowIn 0 0 calm n → EnoughOf v per calm cost n o all few
+            → Enough (s .rate) v (o .lower) (s .rest) (s .own) b few
         enough calm none (inl e) = inl (omega (arith, all-frames))
         enough calm none (inr (z, closes, more)) =
             inr (
               z,
-              rw (calm-rows v c period jitter per jit cost n s calm none z) at closes,
-              rw (later-own v c period jitter per jit cost n s z) at more,
+              rw (calm-rows o per jit cost n s v calm none z) at closes,
+              rw (later-own o per jit cost n s z) at more,
             )
 
       -- the largest response of the frames that are enough is the bound
       pub bound-within : ((x y : ℕ) → v (x + y) ≤ v x + v y) → (calm : List ℕ) → RowIn 0 0 calm n
-          → EnoughOf v per calm cost n c period all few → (r : ℕ) → WorstFor v l c period jitter per jit cost n few r
-          → BoundFor v l c period jitter per jit cost n (Within r)
+          → EnoughOf v per calm cost n o all few → (r : ℕ) → WorstFor v o per jit cost n few r
+          → BoundFor v o per jit cost n (Within r)
       unfolding responseOf horizon beside-in
       bound-within spreads calm none fewer r worst s =
           let inside = beside-in s in
           let same =
           worst inside
-          ∙ few-frames (s .rate) v l (s .rest) (s .own) (s .some-period) (own-pos s) spreads b few (window-least s)
-          (inside .inside) (enough s calm none fewer) in
+          ∙ few-frames (s .rate) v (o .lower) (s .rest) (s .own) (s .some-period) (own-pos s) spreads b few
+          (window-least s) (inside .inside) (enough s calm none fewer) in
           ap Within same
-          ∙ ap responseOf (sym (bound-some (s .rate) v l (s .rest) (s .own) b (window-least s) soon))
+          ∙ ap responseOf (sym (bound-some (s .rate) v (o .lower) (s .rest) (s .own) b (window-least s) soon))

@@ -14,6 +14,7 @@ use Rattle.laws.specs.Numbers.{sum}
 use Rattle.laws.proofs.Sums.{sum-ext, sum-add}
 use Rattle.meaning.specs.Arrivals.{mostIn}
 use Rattle.meaning.proofs.Later.{CountedTo, nextOf, counted-at, counted-on, counted-more, counted-all}
+use Rattle.bound.specs.declared.counts.Counts.{Counts}
 use Rattle.bound.specs.Rows.{streamAt, rowLoad, RowsFit, Low, RowsCounted, stepped, gained, Passed}
 use Rattle.bound.proofs.Places.{sum-more, sum-few, set-below}
 use Rattle.bound.proofs.Arriving.{frames-few}
@@ -86,24 +87,26 @@ module _ (old per cost : List ℕ) (x i : ℕ) (new : List ℕ) (add least s g l
 abbrev pub CountedAt : (per jit cost : List ℕ) (x i : ℕ) (next : List ℕ) (load least : ℕ) → Type 0
 CountedAt per jit cost x i next load least =
     (length next ≡ 64) × ((k : ℕ) → k < i → getD next k 0 ≡ nextOf (streamAt per jit k) x)
-    × (load ≡ rowLoad per jit cost i x) × Low next i least
+    × (load ≡ rowLoad per jit cost i x) × Low next i least × (x < least)
 
 module _ (per jit cost : List ℕ) (x : ℕ) where
-  pub count-starts : (next : List ℕ) (least : ℕ) → length next ≡ 64 → CountedAt per jit cost x 0 next 0 least
+  pub count-starts : (next : List ℕ) (least : ℕ) → length next ≡ 64 → x < least → CountedAt per jit cost x 0 next 0 least
   unfolding rowLoad sum
-  count-starts next least e = (e, λ k h. absurd (omega arith), refl, λ k h. absurd (omega arith))
+  count-starts next least e past = (e, λ k h. absurd (omega arith), refl, λ k h. absurd (omega arith), past)
 
   -- one stream more: its next instant s, the wire time g of its frames, and the least l of the instants so far and s
   pub count-more : (i : ℕ) (next : List ℕ) (load least s g l : ℕ) → CountedAt per jit cost x i next load least → i < 64
-      → s ≡ nextOf (streamAt per jit i) x → g ≡ mostIn (streamAt per jit i) x * getD cost i 0
-      → l ≤ least → l ≤ s → CountedAt per jit cost x (i + 1) (set next i s) (load + g) l
+      → s ≡ nextOf (streamAt per jit i) x → x < s → g ≡ mostIn (streamAt per jit i) x * getD cost i 0
+      → (l ≤ least) × (l ≤ s) × ((z : ℕ) → z ≤ least → z ≤ s → z ≤ l)
+      → CountedAt per jit cost x (i + 1) (set next i s) (load + g) l
   unfolding rowLoad
-  count-more i next load least s g l (long, nexts, tally, low) room es eg below under =
+  count-more i next load least s g l (long, nexts, tally, low, past) room es after eg (below, under, high) =
       let inside : i < length next = omega arith in (
         rw length-set long,
         set-below (λ k a. a ≡ nextOf (streamAt per jit k) x) next i s inside nexts es,
         rw (sum-more i) (omega (arith, tally, eg)),
         set-below (λ k a. l ≤ a) next i s inside (λ k h. le-trans below (low k h)) under,
+        high (suc x) past after,
       )
 
 -- ---- the frames counted of rows in range
@@ -125,25 +128,27 @@ module _ (per jit cost : List ℕ) (n : ℕ) (fit : RowsFit per jit cost n) wher
   row-load-few x i soon h = sum-few i 40_002_000_000 _ (λ k l. frames-cost x k _ soon (omega arith) (le-refl _))
 
   -- a count that is complete
-  pub count-ends : (x : ℕ) (next : List ℕ) (load least : ℕ) → CountedAt per jit cost x n next load least
-      → RowsCounted per jit cost n next load least x
+  pub count-ends : (x : ℕ) (next : List ℕ) (seen : Counts) → CountedAt per jit cost x n next (seen .load) (seen .least)
+      → RowsCounted per jit cost n next seen x × (x < seen .least)
   unfolding rowLoad
-  count-ends x next load least (long, nexts, tally, low) =
-      record {
-        long = long;
-        taken = λ k. mostIn (streamAt per jit k) x;
-        each = λ k h. rw (nexts k h) (counted-at (streamAt per jit k) (row-pos k h) x);
-        tally = tally;
-        low = low;
-      }
+  count-ends x next seen (long, nexts, tally, low, past) = (
+    record {
+      long = long;
+      taken = λ k. mostIn (streamAt per jit k) x;
+      each = λ k h. rw (nexts k h) (counted-at (streamAt per jit k) (row-pos k h) x);
+      tally = tally;
+      low = low;
+    },
+    past,
+  )
 
-  module _ (next : List ℕ) (load least x : ℕ) (u : RowsCounted per jit cost n next load least x) where
-    pub rows-few : x ≤ 100_000_000 → load ≤ n * 40_002_000_000
+  module _ (next : List ℕ) (seen : Counts) (x : ℕ) (u : RowsCounted per jit cost n next seen x) where
+    pub rows-few : x ≤ 100_000_000 → seen .load ≤ n * 40_002_000_000
     rows-few soon =
         le-trans (omega (arith, u .tally))
         (sum-few n 40_002_000_000 _ (λ k h. frames-cost x k (u .taken k) soon h (u .each k h .in-time)))
 
-    pub rows-on : (y : ℕ) → x ≤ y → RowsCounted per jit cost n next load least y
+    pub rows-on : (y : ℕ) → x ≤ y → RowsCounted per jit cost n next seen y
     rows-on y h =
         record {
           long = u .long;
@@ -154,7 +159,7 @@ module _ (per jit cost : List ℕ) (n : ℕ) (fit : RowsFit per jit cost n) wher
         }
 
     -- where no next instant has come, all frames in x are counted
-    pub rows-all : x < least → load ≡ rowLoad per jit cost n x
+    pub rows-all : x < seen .least → seen .load ≡ rowLoad per jit cost n x
     unfolding rowLoad
     rows-all h =
         u .tally
@@ -164,9 +169,10 @@ module _ (per jit cost : List ℕ) (n : ℕ) (fit : RowsFit per jit cost n) wher
 
     module _ (new : List ℕ) (add lower : ℕ) (p : Passed next per cost x n new add lower) where
       -- a pass counts one frame more of each stream whose next frame has come
-      pub rows-pass : RowsCounted per jit cost n new (load + add) lower x
+      pub rows-pass : (shortest : ℕ)
+          → RowsCounted per jit cost n new (record { load = seen .load + add; least = lower; shortest = shortest }) x
       unfolding stepped gained
-      rows-pass =
+      rows-pass shortest =
           record {
             long = p .long;
             taken = more;
@@ -193,12 +199,12 @@ module _ (per jit cost : List ℕ) (n : ℕ) (fit : RowsFit per jit cost n) wher
           tally k false = omega arith
 
       -- and the least next instant rises
-      pub pass-rises : least ≤ x → x ≤ 100_000_000 → least < lower
+      pub pass-rises : seen .least ≤ x → x ≤ 100_000_000 → seen .least < lower
       unfolding stepped
       pass-rises h soon =
-          p .high (suc least) (omega arith) (λ k q. rw (p .done k q) (later k q (leb (getD next k 0) x) refl))
+          p .high (suc (seen .least)) (omega arith) (λ k q. rw (p .done k q) (later k q (leb (getD next k 0) x) refl))
         where
           later : (k : ℕ) → k < n → (b : Bool) → leb (getD next k 0) x ≡ b
-              → least < cond b (getD next k 0 + getD per k 0) (getD next k 0)
+              → seen .least < cond b (getD next k 0 + getD per k 0) (getD next k 0)
           later k q true e = omega (arith, u .low k q, row-pos k q)
           later k q false e = omega (arith, leb-false (getD next k 0) x e)

@@ -15,8 +15,9 @@ use Rattle.meaning.specs.Arrivals.{mostIn, earliest}
 use Rattle.meaning.specs.Response.{ahead, load, busyLoad, waitLoad}
 use Rattle.meaning.proofs.Later.{laterIn, laterLoad}
 use Rattle.meaning.proofs.FewFrames.{calmLoad}
+use Rattle.bound.specs.declared.Own.{Own}
 use Rattle.bound.specs.Rows.{rowStream, streamAt, rowLoad, RowIn}
-use Rattle.bound.specs.Searches.{rowDemand, rowBusy}
+use Rattle.bound.specs.Searches.{ownStream, calmOwn, rowDemand, rowBusy}
 use Rattle.bound.specs.Answers.{RowsOf, Beside}
 use Rattle.bound.proofs.Places.{total-places, map-at}
 use Rattle.bound.proofs.Arriving.{arrivals-alike, later-computed}
@@ -64,44 +65,47 @@ module _ (rate : ℕ) (js : List Stream) (per jit cost : List ℕ) (n : ℕ) (of
       (arrivals-alike (streamAt per calm k) (rowStream (at k .period) 0) (period-at k h) (omega (arith, none k h)) .0 x
       ∙ later-computed (at k) x) (cost-at k h))
 
--- a stream beside those of the rows
-module _ (v : ℕ → ℕ) (c period jitter : ℕ) (per jit cost : List ℕ) (n : ℕ) (s : Beside c period jitter per jit cost n) where
-  pub most-own : (x : ℕ) → mostIn (rowStream period jitter) x ≡ mostIn (s .own) x
-  most-own = arrivals-alike (rowStream period jitter) (s .own) (s .period-is) (s .jitter-is) .0
+-- the stream asked about, beside those of the rows
+module _ (o : Own) (per jit cost : List ℕ) (n : ℕ) (s : Beside o per jit cost n) where
+  pub most-own : (x : ℕ) → mostIn (ownStream o) x ≡ mostIn (s .own) x
+  most-own = arrivals-alike (ownStream o) (s .own) (s .period-is) (s .jitter-is) .0
 
-  pub early-own : (q : ℕ) → earliest (rowStream period jitter) q ≡ earliest (s .own) q
-  early-own = arrivals-alike (rowStream period jitter) (s .own) (s .period-is) (s .jitter-is) .1
+  pub early-own : (q : ℕ) → earliest (ownStream o) q ≡ earliest (s .own) q
+  early-own = arrivals-alike (ownStream o) (s .own) (s .period-is) (s .jitter-is) .1
+
+  pub later-own : (z : ℕ) → mostIn (ownStream (calmOwn o)) z ≡ laterIn (s .own) z
+  later-own z =
+      arrivals-alike (ownStream (calmOwn o)) (rowStream (s .own .period) 0) (s .period-is) refl .0 z
+      ∙ later-computed (s .own) z
 
   others : (x : ℕ) → rowLoad per jit cost n x ≡ load (s .rate) (ahead (s .own) (s .rest)) x
   others = rows-load (s .rate) (ahead (s .own) (s .rest)) per jit cost n (s .rows)
 
-  -- its busy window
-  pub busy-rows : (l : ℕ) → rowBusy v per jit cost n l c period jitter ≡ busyLoad (s .rate) v l (s .rest) (s .own)
-  unfolding rowBusy busyLoad
-  busy-rows l =
-      fun-ext (λ x. ap₂ (λ (a b : ℕ). l + (a + b) + v x) (ap₂ (λ (a b : ℕ). a * b) (most-own x) (s .wire-is)) (others x))
+  module _ (v : ℕ → ℕ) where
+    -- its busy window
+    pub busy-rows : rowBusy v per jit cost n o ≡ busyLoad (s .rate) v (o .lower) (s .rest) (s .own)
+    unfolding rowBusy busyLoad
+    busy-rows =
+        fun-ext
+        (λ x. ap₂ (λ (a b : ℕ). o .lower + (a + b) + v x)
+        (ap₂ (λ (a b : ℕ). a * b) (most-own x) (s .wire-is)) (others x))
 
-  -- the wait of its frame q
-  pub wait-rows : (l q base : ℕ) → base ≡ l + (q - 1) * c
-      → rowDemand v per jit cost n base c ≡ waitLoad (s .rate) v l (s .rest) (s .own) q
-  unfolding rowDemand waitLoad
-  wait-rows l q base e =
-      let sent = ap (λ (a : ℕ). l + (q - 1) * a) (s .wire-is) in
-      fun-ext (λ x. omega (arith, others x, ap (λ (a : ℕ). v (x + a)) (s .wire-is)))
+    -- the wait of its frame q
+    pub wait-rows : (q base : ℕ) → base ≡ o .lower + (q - 1) * o .wire
+        → rowDemand v per jit cost n base (o .wire) ≡ waitLoad (s .rate) v (o .lower) (s .rest) (s .own) q
+    unfolding rowDemand waitLoad
+    wait-rows q base e =
+        let sent = ap (λ (a : ℕ). o .lower + (q - 1) * a) (s .wire-is) in
+        fun-ext (λ x. omega (arith, others x, ap (λ (a : ℕ). v (x + a)) (s .wire-is)))
 
-  -- its calm window
-  pub later-own : (z : ℕ) → mostIn (rowStream period 0) z ≡ laterIn (s .own) z
-  later-own z =
-      arrivals-alike (rowStream period 0) (rowStream (s .own .period) 0) (s .period-is) refl .0 z
-      ∙ later-computed (s .own) z
-
-  pub calm-rows : (calm : List ℕ) → RowIn 0 0 calm n → (z : ℕ)
-      → rowBusy v per calm cost n 0 c period 0 z ≡ calmLoad (s .rate) v (s .rest) (s .own) z
-  unfolding rowBusy calmLoad
-  calm-rows calm none z =
-      omega (
-        arith,
-        ap₂ (λ (a b : ℕ). a * b) (later-own z) (s .wire-is),
-        rows-later (s .rate) (ahead (s .own) (s .rest)) per jit
-            cost n (s .rows) calm none z,
-      )
+    -- its calm window
+    pub calm-rows : (calm : List ℕ) → RowIn 0 0 calm n → (z : ℕ)
+        → rowBusy v per calm cost n (calmOwn o) z ≡ calmLoad (s .rate) v (s .rest) (s .own) z
+    unfolding rowBusy calmLoad
+    calm-rows calm none z =
+        omega (
+          arith,
+          ap₂ (λ (a b : ℕ). a * b) (later-own z) (s .wire-is),
+          rows-later (s .rate) (ahead (s .own) (s .rest)) per jit
+              cost n (s .rows) calm none z,
+        )

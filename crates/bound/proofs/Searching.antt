@@ -14,41 +14,47 @@ use Rattle.meaning.specs.Arrivals.{mostIn}
 use Rattle.meaning.specs.Interference.{byStairs, lastTotal}
 use Rattle.meaning.proofs.Arrivals.{counted, most-grows}
 use Rattle.table.specs.Lookup.{stairsIn, allIn}
-use Rattle.bound.specs.Rows.{rowStream, streamAt, rowLoad, RowsFit, RowsCounted}
-use Rattle.bound.specs.Searches.{tableV, TableBounds, rowDemand, rowBusy, Settled, Closes}
+use Rattle.bound.specs.declared.counts.Counts.{Counts}
+use Rattle.bound.specs.declared.Sizes.{Sizes}
+use Rattle.bound.specs.declared.Own.{Own}
+use Rattle.bound.specs.Rows.{streamAt, rowLoad, RowsFit, RowsCounted}
+use Rattle.bound.specs.Searches.{tableOf, TableBounds, OwnFits, ownStream, rowDemand, rowBusy, Settled, Closes}
 use Rattle.bound.proofs.Counting.{rows-all}
 
 -- ---- interference
 
-module _ (cycle : ℕ) (far tot : List ℕ) (m : ℕ) (fit : TableBounds cycle far tot m) where
+module _ (far tot : List ℕ) (g : Sizes) (fit : TableBounds far tot g) where
   abbrev v : ℕ → ℕ
-  v = tableV cycle far tot m
+  v = tableOf far tot g
+
+  abbrev all : ℕ
+  all = allIn tot (g .m)
 
   -- in the cycle under way it is at most all blocked cells and V(0)
-  table-round : (t : ℕ) → v t ≤ t / cycle * allIn tot m + (allIn tot m + v 0)
+  table-round : (t : ℕ) → v t ≤ t / g .cycle * all + (all + v 0)
   unfolding byStairs
   table-round t =
       let some = fit .fits .some-cycle in
       let low = mod-lt t some in
-      let within = fit .grows (t % cycle) cycle (omega arith) in
-      let quotient = ap (λ (q : ℕ). q * allIn tot m) (div-eq-of-lt low) in
-      let rest = ap (lastTotal 0 (stairsIn far tot m)) (mod-eq-of-lt low) in
-      let whole = ap (λ (q : ℕ). q * allIn tot m) (div-self some) in
-      let again = ap (lastTotal 0 (stairsIn far tot m)) (mod-self cycle) in
-      let none = ap (λ (q : ℕ). q * allIn tot m) (div-eq-of-lt some) in
-      let first = ap (lastTotal 0 (stairsIn far tot m)) (mod-eq-of-lt some) in
+      let within = fit .grows (t % g .cycle) (g .cycle) (omega arith) in
+      let quotient = ap (λ (q : ℕ). q * all) (div-eq-of-lt low) in
+      let rest = ap (lastTotal 0 (stairsIn far tot (g .m))) (mod-eq-of-lt low) in
+      let whole = ap (λ (q : ℕ). q * all) (div-self some) in
+      let again = ap (lastTotal 0 (stairsIn far tot (g .m))) (mod-self (g .cycle)) in
+      let none = ap (λ (q : ℕ). q * all) (div-eq-of-lt some) in
+      let first = ap (lastTotal 0 (stairsIn far tot (g .m))) (mod-eq-of-lt some) in
       omega arith
 
   -- so that it fits 64 bits with room to spare
   pub table-most : (t : ℕ) → t ≤ 102_000_000 → v t ≤ 10_300_000_000_000_000
   table-most t h =
-      let cycles = le-trans (div-le-self t cycle) h in
+      let cycles = le-trans (div-le-self t (g .cycle)) h in
       omega (
         arith,
         table-round t,
         fit .all-most,
         fit .first-most,
-        mul-le-mul {n₁ = t / cycle} {m₁ = allIn tot m}
+        mul-le-mul {n₁ = t / g .cycle} {m₁ = all}
             {n₂ = 102_000_000} {m₂ = 100_000_000} cycles (fit .all-most),
       )
 
@@ -67,27 +73,31 @@ module _ (per jit cost : List ℕ) (n : ℕ) (fit : RowsFit per jit cost n) wher
     unfolding rowDemand
     row-demand-mono base off x y h = omega (arith, row-load-mono x y h, v-grows (x + off) (y + off) (omega arith))
 
-    pub row-busy-mono : (l c period jitter : ℕ) → 0 < period → Mono (rowBusy v per jit cost n l c period jitter)
+    pub row-busy-mono : (own : Own) → OwnFits own → Mono (rowBusy v per jit cost n own)
     unfolding rowBusy
-    row-busy-mono l c period jitter pos x y h =
-        omega
-        (arith, row-load-mono x y h, v-grows x y h, mul-le-mul-right c (most-grows (counted (rowStream period jitter) pos) x y h))
+    row-busy-mono own fits x y h =
+        omega (
+          arith,
+          row-load-mono x y h,
+          v-grows x y h,
+          mul-le-mul-right (own .wire)
+              (most-grows (counted (ownStream own) (omega (arith, fits .period-least))) x y h),
+        )
 
   -- what a try asks for, with all frames in w counted
-  pub tried : (v : ℕ → ℕ) (base off w : ℕ) (next : List ℕ) (load least blocked : ℕ)
-      → RowsCounted per jit cost n next load least w → w < least → blocked ≡ v (w + off)
-      → base + load + blocked ≡ rowDemand v per jit cost n base off w
+  pub tried : (v : ℕ → ℕ) (base off w : ℕ) (next : List ℕ) (seen : Counts) (blocked : ℕ)
+      → RowsCounted per jit cost n next seen w → w < seen .least → blocked ≡ v (w + off)
+      → base + seen .load + blocked ≡ rowDemand v per jit cost n base off w
   unfolding rowDemand
-  tried v base off w next load least blocked u past e =
-      omega (arith, rows-all per jit cost n fit next load least w u past)
+  tried v base off w next seen blocked u past e = omega (arith, rows-all per jit cost n fit next seen w u past)
 
--- with the frames of one stream more, a try is one of the busy window
-pub tried-busy : (v : ℕ → ℕ) (per jit cost : List ℕ) (n l c period jitter base k w : ℕ)
-    → base ≡ l + k * c → k ≡ mostIn (rowStream period jitter) w
-    → rowDemand v per jit cost n base 0 w ≡ rowBusy v per jit cost n l c period jitter w
+-- with own's frames, a try is one of the busy window
+pub tried-busy : (v : ℕ → ℕ) (per jit cost : List ℕ) (n : ℕ) (own : Own) (base k w : ℕ)
+    → base ≡ own .lower + k * own .wire → k ≡ mostIn (ownStream own) w
+    → rowDemand v per jit cost n base 0 w ≡ rowBusy v per jit cost n own w
 unfolding rowDemand rowBusy
-tried-busy v per jit cost n l c period jitter base k w eb e =
-    omega (arith, ap (λ (q : ℕ). q * c) e, ap v (add-zero w))
+tried-busy v per jit cost n own base k w eb e =
+    omega (arith, ap (λ (q : ℕ). q * own .wire) e, ap v (add-zero w))
 
 -- ---- a search from below, after a try that asks for y
 

@@ -15,8 +15,10 @@ use Rattle.meaning.proofs.FewFrames.{worstOf}
 use Rattle.table.specs.Lookup.{allIn, TableFits}
 use Rattle.bound.specs.declared.Response.{Response}
 use Rattle.bound.specs.declared.Response.the-variants.{Within, Endless}
-use Rattle.bound.specs.Rows.{rowStream, RowsFit}
-use Rattle.bound.specs.Searches.{tableV, rowBusy}
+use Rattle.bound.specs.declared.Sizes.{Sizes}
+use Rattle.bound.specs.declared.Own.{Own}
+use Rattle.bound.specs.Rows.{RowsFit}
+use Rattle.bound.specs.Searches.{tableV, tableOf, OwnFits, ownStream, calmOwn, rowBusy}
 
 -- ---- the answer
 
@@ -55,56 +57,51 @@ pub record RowsOf (rate : ℕ) (js : List Stream) (per jit cost : List ℕ) (n :
   pub jitters : take n jit ≡ map (λ j. j .jitter) js
   pub costs : take n cost ≡ map (λ j. wireTime rate (j .octets)) js
 
--- a stream of wire time c, and others beside it: the rows stand for those of equal or higher priority
-pub record Beside (c period jitter : ℕ) (per jit cost : List ℕ) (n : ℕ) : Type 0 where
+-- the stream asked about, and others beside it: the rows stand for those of equal or higher priority
+pub record Beside (o : Own) (per jit cost : List ℕ) (n : ℕ) : Type 0 where
   pub rate : ℕ
   pub own : Stream
   pub rest : List Stream
-  pub wire-is : c ≡ wireTime rate (own .octets)
-  pub period-is : period ≡ own .period
-  pub jitter-is : jitter ≡ own .jitter
+  pub wire-is : o .wire ≡ wireTime rate (own .octets)
+  pub period-is : o .period ≡ own .period
+  pub jitter-is : o .jitter ≡ own .jitter
   pub rows : RowsOf rate (ahead own rest) per jit cost n
   pub some-period : (j : Stream) → Mem j rest → 0 < j .period
 
 -- and its busy window, with that many frames from the last that can come at 0 on
-pub record BesideIn (v : ℕ → ℕ) (l c period jitter : ℕ) (per jit cost : List ℕ) (n frames : ℕ) : Type 0 where
-  pub beside : Beside c period jitter per jit cost n
+pub record BesideIn (v : ℕ → ℕ) (o : Own) (per jit cost : List ℕ) (n frames : ℕ) : Type 0 where
+  pub beside : Beside o per jit cost n
   pub b : ℕ
-  pub busy : Least (busyLoad (beside .rate) v l (beside .rest) (beside .own)) b
+  pub busy : Least (busyLoad (beside .rate) v (o .lower) (beside .rest) (beside .own)) b
   pub ends : b ≤ 100_000_000
   pub inside : mostIn (beside .own) 0 + frames ≤ mostIn (beside .own) b + 1
 
 -- ---- what is computed from rows of numbers
 
--- how many frames are enough of those that a busy window has: all, or, where z closes without l and jitter, one and as
--- many as can come later in z
-abbrev pub EnoughOf : (v : ℕ → ℕ) (per calm cost : List ℕ) (n c gap all r : ℕ) → Type 0
-EnoughOf v per calm cost n c gap all r =
-    (r ≡ all) ⊎ ((z : ℕ) × (rowBusy v per calm cost n 0 c gap 0 z ≤ z) × (mostIn (rowStream gap 0) z + 1 ≤ r))
+-- how many frames are enough of those that a busy window has: all, or, where z closes the calm window, one and as many as
+-- can come later in z
+abbrev pub EnoughOf : (v : ℕ → ℕ) (per calm cost : List ℕ) (n : ℕ) (o : Own) (all r : ℕ) → Type 0
+EnoughOf v per calm cost n o all r =
+    (r ≡ all)
+    ⊎ ((z : ℕ) × (rowBusy v per calm cost n (calmOwn o) z ≤ z) × (mostIn (ownStream (calmOwn o)) z + 1 ≤ r))
 
 -- r is the largest response of that many frames, whichever streams the numbers stand for
-abbrev pub WorstFor : (v : ℕ → ℕ) (l c period jitter : ℕ) (per jit cost : List ℕ) (n frames r : ℕ) → Type 0
-WorstFor v l c period jitter per jit cost n frames r =
-    (s : BesideIn v l c period jitter per jit cost n frames)
-    → r ≡ worstOf (s .beside .rate) v l (s .beside .rest) (s .beside .own) (s .b) (mostIn (s .beside .own) 0) frames
+abbrev pub WorstFor : (v : ℕ → ℕ) (o : Own) (per jit cost : List ℕ) (n frames r : ℕ) → Type 0
+WorstFor v o per jit cost n frames r =
+    (s : BesideIn v o per jit cost n frames)
+    → r ≡ worstOf (s .beside .rate) v (o .lower) (s .beside .rest) (s .beside .own) (s .b) (mostIn (s .beside .own) 0) frames
 
 -- r is the response bound, whichever streams the numbers stand for
-abbrev pub BoundFor : (v : ℕ → ℕ) (l c period jitter : ℕ) (per jit cost : List ℕ) (n : ℕ) → Response → Type 0
-BoundFor v l c period jitter per jit cost n r =
-    (s : Beside c period jitter per jit cost n) → r ≡ responseOf (bound (s .rate) v l (s .rest) (s .own))
+abbrev pub BoundFor : (v : ℕ → ℕ) (o : Own) (per jit cost : List ℕ) (n : ℕ) → Response → Type 0
+BoundFor v o per jit cost n r =
+    (s : Beside o per jit cost n) → r ≡ responseOf (bound (s .rate) v (o .lower) (s .rest) (s .own))
 
 -- numbers from which that can be computed
-pub record RowsAsk (cycle : ℕ) (far tot : List ℕ) (m : ℕ) (per jit cost : List ℕ) (n l c period jitter : ℕ)
-    : Type 0 where
-  pub table : TableFits cycle far tot m
-  pub all-most : allIn tot m ≤ 100_000_000
-  pub v-grows : Mono (tableV cycle far tot m)
-  pub v-spreads : (x y : ℕ) → tableV cycle far tot m (x + y) ≤ tableV cycle far tot m x + tableV cycle far tot m y
-  pub rows-fit : RowsFit per jit cost n
-  pub lower-most : l ≤ 2_000_000
-  pub wire-least : 1 ≤ c
-  pub wire-most : c ≤ 2_000_000
-  pub period-least : 10_000 ≤ period
-  pub period-most : period ≤ 100_000_000
-  pub jitter-most : jitter ≤ 100_000_000
-  pub beside : Beside c period jitter per jit cost n
+pub record RowsAsk (far tot : List ℕ) (g : Sizes) (o : Own) (per jit cost : List ℕ) : Type 0 where
+  pub table : TableFits (g .cycle) far tot (g .m)
+  pub all-most : allIn tot (g .m) ≤ 100_000_000
+  pub v-grows : Mono (tableOf far tot g)
+  pub v-spreads : (x y : ℕ) → tableOf far tot g (x + y) ≤ tableOf far tot g x + tableOf far tot g y
+  pub rows-fit : RowsFit per jit cost (g .n)
+  pub own-fits : OwnFits o
+  pub beside : Beside o per jit cost (g .n)

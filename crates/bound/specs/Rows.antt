@@ -9,6 +9,7 @@ use Rattle.laws.specs.Numbers.{sum}
 use Rattle.meaning.specs.declared.Stream.{Stream}
 use Rattle.meaning.specs.Arrivals.{mostIn}
 use Rattle.meaning.proofs.Later.{CountedTo}
+use Rattle.bound.specs.declared.counts.Counts.{Counts}
 
 -- ---- streams
 
@@ -43,13 +44,13 @@ abbrev pub Low : List ℕ → ℕ → ℕ → Type 0
 Low next n z = (k : ℕ) → k < n → z ≤ getD next k 0
 
 -- of each of the first n streams so many frames are counted, all of which can have come by x: when the next one comes
--- stands in the row, load is the wire time of those counted, and no next instant is before least
-pub record RowsCounted (per jit cost : List ℕ) (n : ℕ) (next : List ℕ) (load least x : ℕ) : Type 0 where
+-- stands in the row, the load is the wire time of those counted, and no next instant is before the least
+pub record RowsCounted (per jit cost : List ℕ) (n : ℕ) (next : List ℕ) (seen : Counts) (x : ℕ) : Type 0 where
   pub long : length next ≡ 64
   pub taken : ℕ → ℕ
   pub each : (k : ℕ) → k < n → CountedTo (streamAt per jit k) x (taken k) (getD next k 0)
-  pub tally : load ≡ sum n (λ k. taken k * getD cost k 0)
-  pub low : Low next n least
+  pub tally : seen .load ≡ sum n (λ k. taken k * getD cost k 0)
+  pub low : Low next n (seen .least)
 
 -- a next instant that has come by x moves on by a period
 unfoldable pub stepped : ℕ → ℕ → ℕ → ℕ

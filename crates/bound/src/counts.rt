@@ -7,10 +7,12 @@ use crate::arrivals::frames_in;
 use crate::arrivals::next_after;
 use crate::arrivals::step;
 
-// The wire time of the frames counted, and the least next instant: with no stream, the largest number.
+// The wire time of the frames counted, and the least next instant: with no stream, the largest number. The shortest
+// period tells which way to go on counting is the cheaper one, and nothing more.
 pub struct Counts {
     pub load: u64,
     pub least: u32,
+    pub shortest: u32,
 }
 
 // A wire time, where the frame at a has come by x; else 0.
@@ -44,10 +46,11 @@ pub fn count(
 ) -> Counts
     requires { ⌜ RowsFit (now per) (now jit) (now cost) n × (x ≤ 100_000_000) × (length (now next) ≡ 64) ⌝ }
     ensures { λ r. ⌜ RowsCounted (now (per .entry)) (now (jit .entry)) (now (cost .entry)) n
-        (now (next .exit)) (r .load) (r .least) x ⌝ }
+        (now (next .exit)) r x × (x < r .least) ⌝ }
 {
     let mut load: u64 = 0;
     let mut least: u32 = 4_294_967_295;
+    let mut shortest: u32 = 4_294_967_295;
     let mut i: usize = 0;
     while i < n {
         let t = per[i];
@@ -56,14 +59,25 @@ pub fn count(
         let a = next_after(x, t, j);
         load = load + frames_in(x, t, j) as u64 * c as u64;
         least = lesser(least, a);
+        shortest = lesser(shortest, t);
         next[i] = a;
         i += 1;
     }
-    Counts { load, least }
+    Counts {
+        load,
+        least,
+        shortest,
+    }
 }
 
-// One pass: each stream whose next frame has come by x has one more counted. Answers what that adds.
-fn pass(next: &mut [u32; 64], per: &[u32; 64], cost: &[u32; 64], n: usize, x: u32) -> Counts
+// What a pass adds, and the least next instant after it.
+pub struct Added {
+    pub load: u32,
+    pub least: u32,
+}
+
+// One pass: each stream whose next frame has come by x has one more counted.
+fn pass(next: &mut [u32; 64], per: &[u32; 64], cost: &[u32; 64], n: usize, x: u32) -> Added
     requires { ⌜ (n ≤ 64) × RowIn 10_000 100_000_000 (now per) n × RowIn 0 2_000_000 (now cost) n
         × (x ≤ 100_000_000) × (length (now next) ≡ 64) ⌝ }
     ensures { λ r. ⌜ Passed (now (next .entry)) (now (per .entry)) (now (cost .entry)) x n
@@ -80,13 +94,11 @@ fn pass(next: &mut [u32; 64], per: &[u32; 64], cost: &[u32; 64], n: usize, x: u3
         next[i] = s;
         i += 1;
     }
-    Counts {
-        load: add as u64,
-        least,
-    }
+    Added { load: add, least }
 }
 
-// The frames counted so far brought up to x: passes until no next instant has come. The jitters stand in the contract.
+// The frames counted so far brought up to x: by passes until no next instant has come, or, where x is further on than a
+// few periods, from the start.
 pub fn advance(
     next: &mut [u32; 64],
     per: &[u32; 64],
@@ -97,16 +109,26 @@ pub fn advance(
     seen: Counts,
 ) -> Counts
     requires { ⌜ RowsFit (now per) (now jit) (now cost) n × (x ≤ 100_000_000)
-        × RowsCounted (now per) (now jit) (now cost) n (now next) (seen .load) (seen .least) x ⌝ }
+        × RowsCounted (now per) (now jit) (now cost) n (now next) seen x ⌝ }
     ensures { λ r. ⌜ RowsCounted (now (per .entry)) (now (jit .entry)) (now (cost .entry)) n
-        (now (next .exit)) (r .load) (r .least) x × (x < r .least) ⌝ }
+        (now (next .exit)) r x × (x < r .least) ⌝ }
 {
     let mut load: u64 = seen.load;
     let mut least: u32 = seen.least;
+    let shortest = seen.shortest;
+    if least <= x {
+        if shortest <= (x - least) / 4 {
+            return count(next, per, jit, cost, n, x);
+        }
+    }
     while least <= x {
         let p = pass(next, per, cost, n, x);
-        load = load + p.load;
+        load = load + p.load as u64;
         least = p.least;
     }
-    Counts { load, least }
+    Counts {
+        load,
+        least,
+        shortest,
+    }
 }

@@ -7,7 +7,7 @@ ghost use Rattle.meaning.specs.declared.Stream.{Stream};
 ghost use Rattle.meaning.specs.Wire.{wireTime};
 ghost use Rattle.meaning.specs.Response.{lowerWire, bound};
 ghost use Rattle.bound.specs.Unpacked.{aheadOf};
-ghost use Rattle.bound.specs.Searches.{tableV};
+ghost use Rattle.bound.specs.Searches.{tableV, tableOf};
 ghost use Rattle.bound.specs.Answers.{responseOf, Asks, RowsAsk, BoundFor};
 
 mod arrivals;
@@ -37,6 +37,21 @@ pub struct Ahead {
     pub jit: [u32; 64],
     pub cost: [u32; 64],
     pub lower: u32,
+}
+
+// How many streams the rows hold, how many stairs, and the cycle.
+pub struct Sizes {
+    pub n: usize,
+    pub m: usize,
+    pub cycle: u32,
+}
+
+// Of the stream asked about: the largest wire time of a lower priority, its wire time, its period and its jitter.
+pub struct Own {
+    pub lower: u32,
+    pub wire: u32,
+    pub period: u32,
+    pub jitter: u32,
 }
 
 // The wire time of a frame, 0 at a number that is no rate code.
@@ -97,80 +112,34 @@ pub fn unpack(rate: u32, streams: [Stream; 64], n: usize, own: Stream, leave: us
     }
 }
 
-// The bound of a stream of wire time c beside streams that are unpacked: from its busy window, the frames that are
-// enough, and the largest response of those. A V(0) over the horizon leaves no window to close.
+// The bound of own beside streams that are unpacked: from its busy window, the frames that are enough, and the largest
+// response of those. A V(0) over the horizon leaves no window to close.
 pub fn rows_bound<'a>(
     per: &'a [u32; 64],
     jit: &'a [u32; 64],
     cost: &'a [u32; 64],
-    n: usize,
-    cycle: u32,
     far: &'a [u32; 993],
     tot: &'a [u32; 993],
-    m: usize,
-    l: u32,
-    c: u32,
-    period: u32,
-    jitter: u32,
+    g: Sizes,
+    own: Own,
 ) -> Response
-    requires { ⌜ RowsAsk cycle (now far) (now tot) m (now per) (now jit) (now cost) n l c period jitter ⌝ }
-    ensures { λ r. ⌜ BoundFor (tableV cycle (now (far .entry)) (now (tot .entry)) m) l c period jitter
-        (now (per .entry)) (now (jit .entry)) (now (cost .entry)) n r ⌝ }
+    requires { ⌜ RowsAsk (now far) (now tot) g own (now per) (now jit) (now cost) ⌝ }
+    ensures { λ r. ⌜ BoundFor (tableOf (now (far .entry)) (now (tot .entry)) g) own
+        (now (per .entry)) (now (jit .entry)) (now (cost .entry)) (g .n) r ⌝ }
 {
-    if HORIZON < table::interference(cycle, far, tot, m, 0) {
+    if HORIZON < table::interference(g.cycle, far, tot, g.m, 0) {
         return Response::Endless;
     }
     let mut next = [0u32; 64];
-    let b = window(
-        &mut next,
-        per,
-        jit,
-        cost,
-        n,
-        cycle,
-        far,
-        tot,
-        m,
-        l,
-        c,
-        period,
-        jitter,
-    );
+    let b = window(&mut next, per, jit, cost, far, tot, g, own);
     if HORIZON < b as u64 {
         return Response::Endless;
     }
-    let all = frames_in(b, period, jitter) + 1 - frames_in(0, period, jitter);
+    let first = frames_in(0, own.period, own.jitter);
+    let all = frames_in(b, own.period, own.jitter) + 1 - first;
     let calm = [0u32; 64];
-    let few = enough(
-        &mut next,
-        per,
-        &calm,
-        cost,
-        n,
-        cycle,
-        far,
-        tot,
-        m,
-        c,
-        period,
-        all,
-    );
-    Response::Within(worst(
-        &mut next,
-        per,
-        jit,
-        cost,
-        n,
-        cycle,
-        far,
-        tot,
-        m,
-        l,
-        c,
-        period,
-        jitter,
-        few,
-    ))
+    let few = enough(&mut next, per, &calm, cost, far, tot, g, own, all);
+    Response::Within(worst(&mut next, per, jit, cost, far, tot, g, own, few))
 }
 
 // The response bound of own beside the first n streams of a row, all but the one at place leave.
@@ -190,22 +159,19 @@ pub fn response_bound<'a>(
         (lowerWire rate own (without leave (take n streams))) (without leave (take n streams)) own) ⌝ }
 {
     let a = unpack(rate, streams, n, own, leave);
-    let c = wire_of(rate, own.octets);
     let per = a.per;
     let jit = a.jit;
     let cost = a.cost;
-    rows_bound(
-        &per,
-        &jit,
-        &cost,
-        a.n,
+    let g = Sizes {
+        n: a.n,
+        m: nstairs,
         cycle,
-        far,
-        tot,
-        nstairs,
-        a.lower,
-        c,
-        own.period,
-        own.jitter,
-    )
+    };
+    let o = Own {
+        lower: a.lower,
+        wire: wire_of(rate, own.octets),
+        period: own.period,
+        jitter: own.jitter,
+    };
+    rows_bound(&per, &jit, &cost, far, tot, g, o)
 }

@@ -5,7 +5,9 @@ ghost use lib.ListN.{length};
 ghost use Rattle.laws.specs.Numbers.{Least};
 ghost use Rattle.laws.proofs.Leasts.{Under};
 ghost use Rattle.bound.specs.Rows.{RowsFit, RowsCounted};
-ghost use Rattle.bound.specs.Searches.{tableV, TableBounds, rowDemand, rowBusy, Settled, Closes};
+ghost use Rattle.bound.specs.Searches.{tableOf, TableBounds, rowDemand, OwnFits, rowBusy, Settled, Closes};
+use crate::Own;
+use crate::Sizes;
 use crate::arrivals::frames_in;
 use crate::counts::Counts;
 use crate::counts::advance;
@@ -17,15 +19,13 @@ pub const HORIZON: u64 = 100_000_000;
 // A try: what it asks for, and the frames counted by then.
 pub struct Tried {
     pub need: u64,
-    pub load: u64,
-    pub least: u32,
+    pub seen: Counts,
 }
 
 // A number that closes, and the frames counted by then.
 pub struct Found {
     pub w: u32,
-    pub load: u64,
-    pub least: u32,
+    pub seen: Counts,
 }
 
 // One try: brings the counts up to w, and answers base, the load in w, and the interference of w and off.
@@ -34,32 +34,25 @@ pub fn attempt<'a>(
     per: &[u32; 64],
     jit: &[u32; 64],
     cost: &[u32; 64],
-    n: usize,
-    cycle: u32,
     far: &'a [u32; 993],
     tot: &'a [u32; 993],
-    m: usize,
+    g: Sizes,
     base: u64,
     off: u32,
     w: u32,
     seen: Counts,
 ) -> Tried
-    requires { ⌜ RowsFit (now per) (now jit) (now cost) n × TableBounds cycle (now far) (now tot) m
-        × RowsCounted (now per) (now jit) (now cost) n (now next) (seen .load) (seen .least) w
+    requires { ⌜ RowsFit (now per) (now jit) (now cost) (g .n) × TableBounds (now far) (now tot) g
+        × RowsCounted (now per) (now jit) (now cost) (g .n) (now next) seen w
         × (w ≤ 100_000_000) × (base ≤ 1_000_000_000_000) × (off ≤ 2_000_000) ⌝ }
-    ensures { λ r. ⌜ RowsCounted (now (per .entry)) (now (jit .entry)) (now (cost .entry)) n
-        (now (next .exit)) (r .load) (r .least) w
-        × (r .need ≡ rowDemand (tableV cycle (now (far .entry)) (now (tot .entry)) m)
-        (now (per .entry)) (now (jit .entry)) (now (cost .entry)) n base off w) ⌝ }
+    ensures { λ r. ⌜ RowsCounted (now (per .entry)) (now (jit .entry)) (now (cost .entry)) (g .n)
+        (now (next .exit)) (r .seen) w × (r .need ≡ rowDemand (tableOf (now (far .entry)) (now (tot .entry)) g)
+        (now (per .entry)) (now (jit .entry)) (now (cost .entry)) (g .n) base off w) ⌝ }
 {
-    let c = advance(next, per, jit, cost, n, w, seen);
-    let v = table::interference(cycle, far, tot, m, w + off);
+    let c = advance(next, per, jit, cost, g.n, w, seen);
+    let v = table::interference(g.cycle, far, tot, g.m, w + off);
     let need = base + c.load + v;
-    Tried {
-        need,
-        load: c.load,
-        least: c.least,
-    }
+    Tried { need, seen: c }
 }
 
 // The wait of a frame: the least w, from `from` on, that covers base, the load in w, and the interference of w and off.
@@ -69,100 +62,61 @@ pub fn settle<'a>(
     per: &[u32; 64],
     jit: &[u32; 64],
     cost: &[u32; 64],
-    n: usize,
-    cycle: u32,
     far: &'a [u32; 993],
     tot: &'a [u32; 993],
-    m: usize,
+    g: Sizes,
     base: u64,
     off: u32,
     from: u32,
-    seen: Counts,
+    counts: Counts,
 ) -> Found
-    requires { ⌜ RowsFit (now per) (now jit) (now cost) n × TableBounds cycle (now far) (now tot) m
-        × RowsCounted (now per) (now jit) (now cost) n (now next) (seen .load) (seen .least) from
+    requires { ⌜ RowsFit (now per) (now jit) (now cost) (g .n) × TableBounds (now far) (now tot) g
+        × RowsCounted (now per) (now jit) (now cost) (g .n) (now next) counts from
         × (base ≤ 1_000_000_000_000) × (off ≤ 2_000_000)
-        × Under (rowDemand (tableV cycle (now far) (now tot) m) (now per) (now jit) (now cost) n base off) from
-        × Closes (rowDemand (tableV cycle (now far) (now tot) m) (now per) (now jit) (now cost) n base off) ⌝ }
-    ensures { λ r. ⌜ RowsCounted (now (per .entry)) (now (jit .entry)) (now (cost .entry)) n
-        (now (next .exit)) (r .load) (r .least) (r .w)
-        × Least (rowDemand (tableV cycle (now (far .entry)) (now (tot .entry)) m)
-        (now (per .entry)) (now (jit .entry)) (now (cost .entry)) n base off) (r .w) × (r .w ≤ 100_000_000) ⌝ }
+        × Under (rowDemand (tableOf (now far) (now tot) g) (now per) (now jit) (now cost) (g .n) base off) from
+        × Closes (rowDemand (tableOf (now far) (now tot) g) (now per) (now jit) (now cost) (g .n) base off) ⌝ }
+    ensures { λ r. ⌜ RowsCounted (now (per .entry)) (now (jit .entry)) (now (cost .entry)) (g .n)
+        (now (next .exit)) (r .seen) (r .w) × (r .w ≤ 100_000_000)
+        × Least (rowDemand (tableOf (now (far .entry)) (now (tot .entry)) g)
+        (now (per .entry)) (now (jit .entry)) (now (cost .entry)) (g .n) base off) (r .w) ⌝ }
 {
-    let mut w: u32 = from;
-    let mut load: u64 = seen.load;
-    let mut least: u32 = seen.least;
+    let mut w = from;
+    let mut seen = counts;
     loop {
-        let t = attempt(
-            next,
-            per,
-            jit,
-            cost,
-            n,
-            cycle,
-            far,
-            tot,
-            m,
-            base,
-            off,
-            w,
-            Counts { load, least },
-        );
-        load = t.load;
-        least = t.least;
+        let t = attempt(next, per, jit, cost, far, tot, g, base, off, w, seen);
+        seen = t.seen;
         if t.need <= w as u64 {
-            return Found { w, load, least };
+            return Found { w, seen };
         }
         w = t.need as u32;
     }
 }
 
-// The busy window of a stream of wire time c beside those of the rows: the least x up to the horizon that covers l, all
-// their frames in x, and the interference of x. The horizon and 1 where there is none.
+// The busy window of own beside the streams of the rows: the least x up to the horizon that covers L, all their frames in
+// x, and the interference of x. The horizon and 1 where there is none.
 pub fn window<'a>(
     next: &mut [u32; 64],
     per: &[u32; 64],
     jit: &[u32; 64],
     cost: &[u32; 64],
-    n: usize,
-    cycle: u32,
     far: &'a [u32; 993],
     tot: &'a [u32; 993],
-    m: usize,
-    l: u32,
-    c: u32,
-    period: u32,
-    jitter: u32,
+    g: Sizes,
+    own: Own,
 ) -> u32
-    requires { ⌜ RowsFit (now per) (now jit) (now cost) n × TableBounds cycle (now far) (now tot) m
-        × (length (now next) ≡ 64) × (l ≤ 2_000_000) × (c ≤ 2_000_000) × (10_000 ≤ period) × (jitter ≤ 100_000_000) ⌝ }
-    ensures { λ r. ⌜ Settled (rowBusy (tableV cycle (now (far .entry)) (now (tot .entry)) m)
-        (now (per .entry)) (now (jit .entry)) (now (cost .entry)) n l c period jitter) r
+    requires { ⌜ RowsFit (now per) (now jit) (now cost) (g .n) × TableBounds (now far) (now tot) g
+        × (length (now next) ≡ 64) × OwnFits own ⌝ }
+    ensures { λ r. ⌜ Settled (rowBusy (tableOf (now (far .entry)) (now (tot .entry)) g)
+        (now (per .entry)) (now (jit .entry)) (now (cost .entry)) (g .n) own) r
         × (length (now (next .exit)) ≡ 64) ⌝ }
 {
-    let f = count(next, per, jit, cost, n, 0);
     let mut w: u32 = 0;
-    let mut load: u64 = f.load;
-    let mut least: u32 = f.least;
+    let mut seen = count(next, per, jit, cost, g.n, w);
     loop {
-        let base = l as u64 + frames_in(w, period, jitter) as u64 * c as u64;
-        let t = attempt(
-            next,
-            per,
-            jit,
-            cost,
-            n,
-            cycle,
-            far,
-            tot,
-            m,
-            base,
-            0,
-            w,
-            Counts { load, least },
-        );
-        load = t.load;
-        least = t.least;
+        let frames = frames_in(w, own.period, own.jitter) as u64;
+        let base = own.lower as u64 + frames * own.wire as u64;
+        let t = attempt(next, per, jit, cost, far, tot, g, base, 0, w, seen);
+        seen = t.seen;
         if t.need <= w as u64 {
             return w;
         }

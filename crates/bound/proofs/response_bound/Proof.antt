@@ -8,20 +8,20 @@ unpack-requires : tie.Need-unpack-requires
 unpack-requires c κs = (c .pre .few, λ j h. c .pre .streams-fit j h .octets-most)
 
 wire-of-requires : tie.Need-wire-of-requires
-wire-of-requires c κs = c .before .pre .own-fits .octets-most
+wire-of-requires c κs = c .before .before .before .before .pre .own-fits .octets-most
 
 rows-bound-requires : tie.Need-rows-bound-requires
 rows-bound-requires c κs =
-    let w = c .before .before .before .before .before .before in
-    let u = w .before in
+    let w = c .before .before .before in
+    let u = w .before .before .before .before in
     let a = u .before .args in
     rows-asked (a .rate) (a .cycle) (a .far .now) (a .tot .now) (a .nstairs) (a .streams) (a .n) (a .own) (a .leave)
     (u .before .pre) (u .unpack .result) (u .unpack .ensures) (w .wire-of .result) (w .wire-of .ensures .0)
 
 returns : tie.Need-returns
 returns c =
-    let w = c .before .before .before .before .before .before .before in
-    let u = w .before in
+    let w = c .before .before .before .before in
+    let u = w .before .before .before .before in
     let a = u .before .args in
     rows-answered (a .rate) (a .cycle) (a .far .now) (a .tot .now) (a .nstairs) (a .streams) (a .n) (a .own) (a .leave)
     (u .before .pre) (u .unpack .result) (u .unpack .ensures) (w .wire-of .result) (w .wire-of .ensures .0)

@@ -6,8 +6,7 @@ use Prim.Native.Nat.{ℕ, _+_, _-_}
 use native.Mathlib.Omega.{arith}
 use lib.ListN.{replicate}
 use Rattle.meaning.specs.Arrivals.{mostIn}
-use Rattle.bound.specs.Rows.{rowStream}
-use Rattle.bound.specs.Searches.{tableV, TableBounds}
+use Rattle.bound.specs.Searches.{tableOf, TableBounds, ownStream}
 use Rattle.bound.proofs.Arriving.{frames-grow}
 use Rattle.bound.proofs.Bounding.{zeros-in, calm-fits, endless-first, endless-window, beside-in, bound-within}
 use borrow.Author.Needs.{needs}
@@ -21,12 +20,12 @@ returns : tie.Need-returns
 returns c =
     let s = c .before .before in
     let a = s .args in
-    endless-first (tableV (a .cycle) (a .far .now) (a .tot .now) (a .m)) (a .l) (a .c) (a .period) (a .jitter) (a .per .now)
-    (a .jit .now) (a .cost .now) (a .n) (s .pre .v-grows) (omega (arith, c .before .interference .ensures))
+    endless-first (tableOf (a .far .now) (a .tot .now) (a .g)) (a .own) (a .per .now) (a .jit .now) (a .cost .now) (a .g .n)
+    (s .pre .v-grows) (omega (arith, c .before .interference .ensures))
 
 table : (c : tie.Else1)
     → let a = c .before .before .args in
-    TableBounds (a .cycle) (a .far .now) (a .tot .now) (a .m)
+    TableBounds (a .far .now) (a .tot .now) (a .g)
 table c =
     let p = c .before .before .pre in
     record {
@@ -39,7 +38,7 @@ table c =
 window-requires : tie.Need-window-requires
 window-requires c κs =
     let p = c .before .before .before .pre in
-    (p .rows-fit, table (c .before), refl, p .lower-most, p .wire-most, p .period-least, p .jitter-most)
+    (p .rows-fit, table (c .before), refl, p .own-fits)
 
 cast-if2 : tie.Need-cast-if2
 cast-if2 c = search needs
@@ -47,23 +46,22 @@ cast-if2 c = search needs
 returns-2 : tie.Need-returns-2
 returns-2 c =
     let w = c .before in
-    let s = w .before .before .before .before in
-    let a = s .args in
-    endless-window (tableV (a .cycle) (a .far .now) (a .tot .now) (a .m)) (a .l) (a .c) (a .period) (a .jitter) (a .per .now)
-    (a .jit .now) (a .cost .now) (a .n) (w .window .result) (w .window .ensures .0) (omega arith)
+    let a = w .before .before .before .before .args in
+    endless-window (tableOf (a .far .now) (a .tot .now) (a .g)) (a .own) (a .per .now) (a .jit .now) (a .cost .now) (a .g .n)
+    (w .window .result) (w .window .ensures .0) (omega arith)
 
 frames-in-requires : tie.Need-frames-in-requires
 frames-in-requires c κs =
-    let p = c .before .before .before .before .before .pre in
-    (omega arith, p .period-least, p .jitter-most)
-
-add-all : tie.Need-add-all
-add-all c = search needs
+    let fits = c .before .before .before .before .before .pre .own-fits in
+    (omega arith, fits .period-least, fits .jitter-most)
 
 frames-in-requires-2 : tie.Need-frames-in-requires-2
 frames-in-requires-2 c κs =
-    let p = c .before .before .before .before .before .before .pre in
-    (omega arith, p .period-least, p .jitter-most)
+    let fits = c .before .before .before .before .before .before .pre .own-fits in
+    (omega arith, fits .period-least, fits .jitter-most)
+
+add-all : tie.Need-add-all
+add-all c = search needs
 
 sub-all : tie.Need-sub-all
 sub-all c =
@@ -74,8 +72,8 @@ sub-all c =
       arith,
       f .frames-in .ensures .0,
       c .frames-in2 .ensures .0,
-      frames-grow 0 (w .window .result) (s .args .period)
-          (s .args .jitter) (omega arith) (s .pre .period-least),
+      frames-grow 0 (w .window .result) (s .args .own .period)
+          (s .args .own .jitter) (omega arith) (s .pre .own-fits .period-least),
     )
 
 enough-requires : tie.Need-enough-requires
@@ -84,20 +82,19 @@ enough-requires c κs =
     let s = w .before .before .before .before in
     let a = s .args in
     let p = s .pre in (
-      calm-fits (a .per .now) (a .jit .now) (a .cost .now) (replicate 64 0) (a .n) (p .rows-fit)
-          (zeros-in (a .n) (p .rows-fit .few)),
+      calm-fits (a .per .now) (a .jit .now) (a .cost .now) (replicate 64 0) (a .g .n) (p .rows-fit)
+          (zeros-in (a .g .n) (p .rows-fit .few)),
       table (w .before .before),
       w .window .ensures .1,
-      p .wire-most,
-      p .period-least,
+      p .own-fits,
     )
 
 all-is : (f : tie.After-frames-in2)
     → let w = f .before .before .before in
-    let a = w .before .before .before .before .args in
-    f .before .frames-in .result + 1 - f .frames-in2 .result
-    ≡ mostIn (rowStream (a .period) (a .jitter)) (w .window .result) + 1 - mostIn (rowStream (a .period) (a .jitter)) 0
-all-is f = ap₂ (λ (x y : ℕ). x + 1 - y) (f .before .frames-in .ensures .0) (f .frames-in2 .ensures .0)
+    let o = w .before .before .before .before .args .own in
+    f .frames-in2 .result + 1 - f .before .frames-in .result
+    ≡ mostIn (ownStream o) (w .window .result) + 1 - mostIn (ownStream o) 0
+all-is f = ap₂ (λ (x y : ℕ). x + 1 - y) (f .frames-in2 .ensures .0) (f .before .frames-in .ensures .0)
 
 worst-requires : tie.Need-worst-requires
 worst-requires c κs =
@@ -110,14 +107,10 @@ worst-requires c κs =
       p .rows-fit,
       table (w .before .before),
       e .enough .ensures .2,
-      p .wire-least,
-      p .wire-most,
-      p .period-least,
-      p .period-most,
-      p .jitter-most,
-      beside-in (tableV (a .cycle) (a .far .now) (a .tot .now) (a .m)) (a .l) (a .c) (a .period) (a .jitter) (a .per .now)
-          (a .jit .now) (a .cost .now) (a .n) (w .window .result) (w .window .ensures .0) (f .before .before .if2 .left)
-          (p .period-least) (f .before .frames-in .result + 1 - f .frames-in2 .result) (e .enough .result) (all-is f)
+      p .own-fits,
+      beside-in (tableOf (a .far .now) (a .tot .now) (a .g)) (a .own) (a .per .now) (a .jit .now) (a .cost .now) (a .g .n)
+          (w .window .result) (w .window .ensures .0) (f .before .before .if2 .left) (p .own-fits)
+          (f .frames-in2 .result + 1 - f .before .frames-in .result) (e .enough .result) (all-is f)
           (e .enough .ensures .1) (p .beside),
     )
 
@@ -129,11 +122,11 @@ returns-3 c =
     let s = w .before .before .before .before in
     let a = s .args in
     let p = s .pre in
-    bound-within (tableV (a .cycle) (a .far .now) (a .tot .now) (a .m)) (a .l) (a .c) (a .period) (a .jitter) (a .per .now)
-    (a .jit .now) (a .cost .now) (a .n) (w .window .result) (w .window .ensures .0) (f .before .before .if2 .left)
-    (p .period-least) (f .before .frames-in .result + 1 - f .frames-in2 .result) (e .enough .result) (all-is f)
-    (e .enough .ensures .1) (p .v-spreads) (replicate 64 0) (zeros-in (a .n) (p .rows-fit .few)) (e .enough .ensures .0)
-    (c .worst .result) (c .worst .ensures)
+    bound-within (tableOf (a .far .now) (a .tot .now) (a .g)) (a .own) (a .per .now) (a .jit .now) (a .cost .now) (a .g .n)
+    (w .window .result) (w .window .ensures .0) (f .before .before .if2 .left) (p .own-fits)
+    (f .frames-in2 .result + 1 - f .before .frames-in .result) (e .enough .result) (all-is f) (e .enough .ensures .1)
+    (p .v-spreads) (replicate 64 0) (zeros-in (a .g .n) (p .rows-fit .few)) (e .enough .ensures .0) (c .worst .result)
+    (c .worst .ensures)
 
 pub rows-bound-spec : {M : Type 1} → statement M
 rows-bound-spec =
@@ -145,8 +138,8 @@ rows-bound-spec =
     cast-if2
     returns-2
     frames-in-requires
-    add-all
     frames-in-requires-2
+    add-all
     sub-all
     enough-requires
     worst-requires

@@ -3,6 +3,7 @@
 -- Assumes nothing.
 use Prim.Native.Nat.{_+_, _-_}
 use native.Mathlib.Omega.{arith}
+use Rattle.bound.specs.declared.counts.Counts.{Counts}
 use Rattle.bound.specs.Rows.{RowsCounted}
 use Rattle.bound.proofs.Counting.{rows-few, rows-pass, pass-rises}
 use borrow.Author.Needs.{needs}
@@ -10,58 +11,86 @@ use Rattle.bound.proofs.counts.advance.Statement.{statement}
 use Rattle.bound.proofs.counts.advance.Tie as tie
 
 abbrev Inv-loop : tie.InvT-loop
-Inv-loop next₀ per jit cost n x load₀ least₀ next load least = RowsCounted per jit cost n next load least x
+Inv-loop next₀ per jit cost n x load₀ least₀ shortest next load least =
+    RowsCounted per jit cost n next (record { load = load; least = least; shortest = shortest }) x
 
 abbrev μ-loop : tie.MeasureT-loop
-μ-loop next₀ per jit cost n x load₀ least₀ next load least = x + 1 - least
+μ-loop next₀ per jit cost n x load₀ least₀ shortest next load least = x + 1 - least
+
+count-requires : tie.Need-count-requires Inv-loop μ-loop
+count-requires c κs =
+    let p = c .before .before .before .pre in
+    (p .0, p .1, p .2 .long)
+
+returns : tie.Need-returns Inv-loop μ-loop
+returns c = c .count .ensures
 
 loop-holds : tie.Need-loop-holds Inv-loop μ-loop
-loop-holds c = search needs
+loop-holds c = c .before .pre .2
 
 pass-requires : tie.Need-pass-requires Inv-loop μ-loop
 pass-requires c κs =
     let h = c .before .before in
-    let p = h .before .pre in
+    let p = h .before .before .pre in
     (p .0 .few, p .0 .periods, p .0 .costs, p .1, h .loop .inv .long)
+
+cast-load : tie.Need-cast-load Inv-loop μ-loop
+cast-load c = search needs
+
+-- the counts at the loop's head
+abbrev seen : tie.At-loop Inv-loop μ-loop → Counts
+seen h =
+    record { load = h .loop .load; least = h .loop .least; shortest = h .before .before .args .seen .shortest }
 
 add-load : tie.Need-add-load Inv-loop μ-loop
 add-load c =
     let h = c .before .before .before .before in
-    let a = h .before .args in
-    let p = h .before .pre in
+    let s = h .before .before in
+    let a = s .args in
     omega (
       arith,
-      p .0 .few,
+      s .pre .0 .few,
       c .before .pass .ensures .few,
-      rows-few (a .per .now) (a .jit .now) (a .cost .now) (a .n) (p .0)
-          (h .loop .next) (h .loop .load) (h .loop .least) (a .x) (h .loop .inv) (p .1),
+      rows-few (a .per .now) (a .jit .now) (a .cost .now) (a .n)
+          (s .pre .0) (h .loop .next) (seen h) (a .x) (h .loop .inv) (s .pre .1),
     )
 
 loop-less : tie.Need-loop-less Inv-loop μ-loop
 loop-less c =
     let h = c .before .before .before .before in
-    let a = h .before .args in
-    let l = h .loop in
+    let s = h .before .before in
+    let a = s .args in
     let r = c .before .pass in
     omega (
       arith,
-      pass-rises (a .per .now) (a .jit .now) (a .cost .now) (a .n) (h .before .pre .0) (l .next) (l .load) (l .least)
-          (a .x) (l .inv) (r .last .0) (r .result .load) (r .result .least) (r .ensures) (omega arith) (h .before .pre .1),
+      pass-rises (a .per .now) (a .jit .now) (a .cost .now) (a .n) (s .pre .0) (h .loop .next) (seen h) (a .x)
+          (h .loop .inv) (r .last .0) (r .result .load) (r .result .least) (r .ensures) (omega arith) (s .pre .1),
     )
 
 loop-again : tie.Need-loop-again Inv-loop μ-loop
 loop-again c =
     let h = c .before .before .before .before in
-    let a = h .before .args in
-    let l = h .loop in
+    let s = h .before .before in
+    let a = s .args in
     let r = c .before .pass in
-    rows-pass (a .per .now) (a .jit .now) (a .cost .now) (a .n) (h .before .pre .0) (l .next) (l .load) (l .least)
-    (a .x) (l .inv) (r .last .0) (r .result .load) (r .result .least) (r .ensures)
+    rows-pass (a .per .now) (a .jit .now) (a .cost .now) (a .n) (s .pre .0) (h .loop .next) (seen h) (a .x) (h .loop .inv)
+    (r .last .0) (r .result .load) (r .result .least) (r .ensures) (a .seen .shortest)
 
-returns : tie.Need-returns Inv-loop μ-loop
-returns c = search needs
+returns-2 : tie.Need-returns-2 Inv-loop μ-loop
+returns-2 c = (c .before .loop .inv, omega arith)
 
 pub advance-spec : {M : Type 1} → statement M
 advance-spec =
     tie.close
-    (tie.spec Inv-loop μ-loop loop-holds pass-requires add-load loop-less loop-again returns)
+    (tie.spec
+    Inv-loop
+    μ-loop
+    count-requires
+    returns
+    loop-holds
+    pass-requires
+    cast-load
+    add-load
+    loop-less
+    loop-again
+    returns-2)

@@ -5,22 +5,23 @@ use Prim.Native.Nat.{ℕ, _-_, _*_, _≤_}
 use native.Mathlib.Nat.{mul-le-mul}
 use native.Mathlib.Omega.{arith}
 use lib.ListN.{getD}
+use Rattle.bound.proofs.Arriving.{next-near}
 use Rattle.bound.proofs.Counting.{CountedAt, count-starts, count-more, count-ends, row-load-few}
 use borrow.Author.Needs.{needs}
 use Rattle.bound.proofs.counts.count.Statement.{statement}
 use Rattle.bound.proofs.counts.count.Tie as tie
 
 abbrev Inv-loop : tie.InvT-loop
-Inv-loop next₀ per jit cost n x load₀ least₀ i₀ next load least i = (i ≤ n) × CountedAt per jit cost x i next load least
+Inv-loop next₀ per jit cost n x load₀ least₀ shortest₀ i₀ next load least shortest i = (i ≤ n) × CountedAt per jit cost x i next load least
 
 abbrev μ-loop : tie.MeasureT-loop
-μ-loop next₀ per jit cost n x load₀ least₀ i₀ next load least i = n - i
+μ-loop next₀ per jit cost n x load₀ least₀ shortest₀ i₀ next load least shortest i = n - i
 
 loop-holds : tie.Need-loop-holds Inv-loop μ-loop
 loop-holds c =
     let a = c .args in (
       omega arith,
-      count-starts (a .per .now) (a .jit .now) (a .cost .now) (a .x) (a .next .now) 4_294_967_295 (c .pre .2),
+      count-starts (a .per .now) (a .jit .now) (a .cost .now) (a .x) (a .next .now) 4_294_967_295 (c .pre .2) (omega arith),
     )
 
 mul-t : tie.Need-mul-t Inv-loop μ-loop
@@ -95,6 +96,9 @@ add-load c =
 lesser-requires : tie.Need-lesser-requires Inv-loop μ-loop
 lesser-requires c κs = search needs
 
+lesser-requires-2 : tie.Need-lesser-requires-2 Inv-loop μ-loop
+lesser-requires-2 c κs = search needs
+
 mul-next : tie.Need-mul-next Inv-loop μ-loop
 mul-next c = search needs
 
@@ -109,26 +113,28 @@ loop-less c = search needs
 
 loop-again : tie.Need-loop-again Inv-loop μ-loop
 loop-again c =
-    let f = c .before in
+    let f = c .before .before in
     let h = f .before .before .before .before .before .before in
     let a = h .before .args in
     let l = h .loop in
-    let s = f .before .next-after in (
+    let fit = h .before .pre .0 in
+    let s = f .before .next-after in
+    let near = next-near (a .x) (getD (a .per .now) (l .i) 0) (getD (a .jit .now) (l .i) 0) (omega arith) (fit .periods (l .i) (omega arith) .0) in (
       omega arith,
       count-more (a .per .now) (a .jit .now) (a .cost .now) (a .x) (l .i) (l .next) (l .load) (l .least) (s .result)
-          (f .frames-in .result * getD (a .cost .now) (l .i) 0) (c .lesser .result) (l .inv .1)
-          (omega (arith, h .before .pre .0 .few)) (s .ensures .0)
-          (ap (λ (k : ℕ). k * getD (a .cost .now) (l .i) 0) (f .frames-in .ensures .0))
-          (c .lesser .ensures .0) (c .lesser .ensures .1),
+          (f .frames-in .result * getD (a .cost .now) (l .i) 0) (c .before .lesser .result) (l .inv .1)
+          (omega (arith, fit .few)) (s .ensures .0) (omega (arith, near .0, s .ensures .0))
+          (ap (λ (k : ℕ). k * getD (a .cost .now) (l .i) 0) (f .frames-in .ensures .0)) (c .before .lesser .ensures),
     )
 
 returns : tie.Need-returns Inv-loop μ-loop
 returns c =
     let h = c .before in
     let a = h .before .args in
-    let e : h .loop .i ≡ a .n = omega arith in
-    count-ends (a .per .now) (a .jit .now) (a .cost .now) (a .n) (h .before .pre .0) (a .x) (h .loop .next) (h .loop .load)
-    (h .loop .least) (rw e at (h .loop .inv .1))
+    let l = h .loop in
+    let e : l .i ≡ a .n = omega arith in
+    count-ends (a .per .now) (a .jit .now) (a .cost .now) (a .n) (h .before .pre .0) (a .x) (l .next)
+    (record { load = l .load; least = l .least; shortest = l .shortest }) (rw e at (l .inv .1))
 
 pub count-spec : {M : Type 1} → statement M
 count-spec =
@@ -150,6 +156,7 @@ count-spec =
     mul-load
     add-load
     lesser-requires
+    lesser-requires-2
     mul-next
     element-write-next
     add-i

@@ -80,9 +80,6 @@ loop-again c =
           (omega (arith, g .ensures .1, h .before .pre .2 (l .i) (omega arith))) (c .lesser .ensures),
     )
 
-cast-t23 : tie.Need-cast-t23 Inv-loop μ-loop
-cast-t23 c = search needs
-
 returns : tie.Need-returns Inv-loop μ-loop
 returns c =
     let h = c .before in
@@ -111,5 +108,4 @@ pass-spec =
     add-i
     loop-less
     loop-again
-    cast-t23
     returns)

@@ -2,7 +2,7 @@
 -- Assumes nothing.
 use Prim.Native.Nat.{_+_, _*_, _≤_}
 use native.Mathlib.Omega.{arith}
-use Rattle.bound.specs.Searches.{tableV}
+use Rattle.bound.specs.Searches.{tableOf}
 use Rattle.bound.proofs.Counting.{rows-few}
 use Rattle.bound.proofs.Searching.{table-most, tried}
 use borrow.Author.Needs.{needs}
@@ -10,24 +10,24 @@ use Rattle.bound.proofs.search.attempt.Statement.{statement}
 use Rattle.bound.proofs.search.attempt.Tie as tie
 
 advance-requires : tie.Need-advance-requires
-advance-requires c κs = search needs
+advance-requires c κs = (c .before .pre .0, c .before .pre .3, c .before .pre .2)
 
 add-interference : tie.Need-add-interference
 add-interference c = search needs
 
 interference-requires : tie.Need-interference-requires
-interference-requires c κs = search needs
+interference-requires c κs = c .before .before .pre .1 .fits
 
 counted-few : (c : tie.After-struct-known) → c .before .before .advance .result .load ≤ 64 * 40_002_000_000
 counted-few c =
     let s = c .before .before .before .before in
     let a = s .args in
-    let g = c .before .before .advance in
+    let r = c .before .before .advance in
     omega (
       arith,
       s .pre .0 .few,
-      rows-few (a .per .now) (a .jit .now) (a .cost .now) (a .n) (s .pre .0) (g .last .0)
-          (g .result .load) (g .result .least) (a .w) (g .ensures .0) (s .pre .3),
+      rows-few (a .per .now) (a .jit .now) (a .cost .now) (a .g .n) (s .pre .0) (r .last .0)
+          (r .result) (a .w) (r .ensures .0) (s .pre .3),
     )
 
 add-need : tie.Need-add-need
@@ -37,25 +37,23 @@ add-need-2 : tie.Need-add-need-2
 add-need-2 c =
     let s = c .before .before .before .before in
     let a = s .args in
-    let v = c .before .interference in
     omega (
       arith,
       counted-few c,
-      v .ensures,
-      table-most (a .cycle) (a .far .now) (a .tot .now) (a .m) (s .pre .1) (a .w + a .off)
-          (omega arith),
+      c .before .interference .ensures,
+      table-most (a .far .now) (a .tot .now) (a .g) (s .pre .1)
+          (a .w + a .off) (omega arith),
     )
 
 returns : tie.Need-returns
 returns c =
     let s = c .before .before .before .before in
     let a = s .args in
-    let g = c .before .before .advance in
+    let r = c .before .before .advance in
     let v = c .before .interference in (
-      g .ensures .0,
-      tried (a .per .now) (a .jit .now) (a .cost .now) (a .n) (s .pre .0) (tableV (a .cycle) (a .far .now) (a .tot .now) (a .m))
-          (a .base) (a .off) (a .w) (g .last .0) (g .result .load) (g .result .least) (v .result)
-          (g .ensures .0) (g .ensures .1) (v .ensures),
+      r .ensures .0,
+      tried (a .per .now) (a .jit .now) (a .cost .now) (a .g .n) (s .pre .0) (tableOf (a .far .now) (a .tot .now) (a .g))
+          (a .base) (a .off) (a .w) (r .last .0) (r .result) (v .result) (r .ensures .0) (r .ensures .1) (v .ensures),
     )
 
 pub attempt-spec : {M : Type 1} → statement M

@@ -5,7 +5,7 @@ use Prim.Native.Nat.{_-_, _≤_}
 use native.Mathlib.Omega.{arith}
 use Rattle.laws.proofs.Leasts.{Under}
 use Rattle.bound.specs.Rows.{RowsCounted}
-use Rattle.bound.specs.Searches.{tableV, rowDemand}
+use Rattle.bound.specs.Searches.{tableOf, rowDemand}
 use Rattle.bound.proofs.Counting.{rows-on}
 use Rattle.bound.proofs.Searching.{row-demand-mono, search-closes, search-goes-on, under-soon}
 use borrow.Author.Needs.{needs}
@@ -13,12 +13,12 @@ use Rattle.bound.proofs.search.settle.Statement.{statement}
 use Rattle.bound.proofs.search.settle.Tie as tie
 
 abbrev Inv-loop : tie.InvT-loop
-Inv-loop next₀ per jit cost n cycle far tot m base off from w₀ load₀ least₀ next w load least =
-    RowsCounted per jit cost n next load least w
-    × Under (rowDemand (tableV cycle far tot m) per jit cost n base off) w × (w ≤ 100_000_000)
+Inv-loop next₀ per jit cost far tot g base off from w₀ seen₀ next w seen =
+    RowsCounted per jit cost (g .n) next seen w
+    × Under (rowDemand (tableOf far tot g) per jit cost (g .n) base off) w × (w ≤ 100_000_000)
 
 abbrev μ-loop : tie.MeasureT-loop
-μ-loop next₀ per jit cost n cycle far tot m base off from w₀ load₀ least₀ next w load least = 100_000_000 - w
+μ-loop next₀ per jit cost far tot g base off from w₀ seen₀ next w seen = 100_000_000 - w
 
 loop-holds : tie.Need-loop-holds Inv-loop μ-loop
 loop-holds c = (c .pre .2, c .pre .5, under-soon (c .pre .5) (c .pre .6))
@@ -34,26 +34,26 @@ cast-if1 c = search needs
 
 returns : tie.Need-returns Inv-loop μ-loop
 returns c =
-    let g = c .before .before in
-    let h = g .before .before in
-    (g .attempt .ensures .0, search-closes (h .loop .inv .1) (g .attempt .ensures .1) (omega arith), h .loop .inv .2)
+    let t = c .before .before .before in
+    let h = t .before .before in
+    (t .attempt .ensures .0, h .loop .inv .2, search-closes (h .loop .inv .1) (t .attempt .ensures .1) (omega arith))
 
 -- where w does not close, no number below what was asked for does
 goes-on : (c : tie.After-struct-known2 Inv-loop μ-loop)
-    → let g = c .before .before .before in
-    let a = g .before .before .before .args in
-    Under (rowDemand (tableV (a .cycle) (a .far .now) (a .tot .now) (a .m)) (a .per .now) (a .jit .now) (a .cost .now) (a .n)
-    (a .base) (a .off)) (g .attempt .result .need)
-    × (g .attempt .result .need ≤ 100_000_000)
+    → let t = c .before .before .before .before in
+    let a = t .before .before .before .args in
+    Under (rowDemand (tableOf (a .far .now) (a .tot .now) (a .g)) (a .per .now) (a .jit .now) (a .cost .now) (a .g .n)
+    (a .base) (a .off)) (t .attempt .result .need)
+    × (t .attempt .result .need ≤ 100_000_000)
 goes-on c =
-    let g = c .before .before .before in
-    let h = g .before .before in
+    let t = c .before .before .before .before in
+    let h = t .before .before in
     let a = h .before .args in
     let p = h .before .pre in
     let grows =
-    row-demand-mono (a .per .now) (a .jit .now) (a .cost .now) (a .n) (p .0)
-    (tableV (a .cycle) (a .far .now) (a .tot .now) (a .m)) (p .1 .grows) (a .base) (a .off) in
-    let u = search-goes-on (h .loop .inv .1) (g .attempt .ensures .1) grows in
+    row-demand-mono (a .per .now) (a .jit .now) (a .cost .now) (a .g .n) (p .0)
+    (tableOf (a .far .now) (a .tot .now) (a .g)) (p .1 .grows) (a .base) (a .off) in
+    let u = search-goes-on (h .loop .inv .1) (t .attempt .ensures .1) grows in
     (u, under-soon u (p .6))
 
 cast-w : tie.Need-cast-w Inv-loop μ-loop
@@ -64,12 +64,11 @@ loop-less c = omega (arith, goes-on c .1)
 
 loop-again : tie.Need-loop-again Inv-loop μ-loop
 loop-again c =
-    let g = c .before .before .before in
-    let h = g .before .before in
+    let t = c .before .before .before .before in
+    let h = t .before .before in
     let a = h .before .args in (
-      rows-on (a .per .now) (a .jit .now) (a .cost .now) (a .n) (h .before .pre .0) (g .attempt .last .0)
-          (g .attempt .result .load) (g .attempt .result .least) (h .loop .w) (g .attempt .ensures .0)
-          (g .attempt .result .need) (omega arith),
+      rows-on (a .per .now) (a .jit .now) (a .cost .now) (a .g .n) (h .before .pre .0) (t .attempt .last .0)
+          (t .attempt .result .seen) (h .loop .w) (t .attempt .ensures .0) (t .attempt .result .need) (omega arith),
       goes-on c .0,
       goes-on c .1,
     )
