@@ -13,6 +13,7 @@ use meaning::Slot;
 use meaning::Stream;
 pub use parts::with_stairs;
 pub use ports::bare;
+pub use ports::hold_port;
 pub use ports::open_port;
 pub use questions::interference;
 pub use questions::runs;

@@ -3,6 +3,7 @@ ghost use mathlib.Core.Path.{_≡_};
 ghost use Rattle.meaning.specs.Desks.{bare, edited};
 ghost use Rattle.meaning.specs.Calls.{openPort};
 ghost use Rattle.desk.specs.Desks.{held, deskOf, Fit, portOf, editReply};
+ghost use Rattle.desk.specs.Edits.{FitButStairs, holdReply};
 use crate::Desk;
 use crate::EditReply;
 use crate::PortNumbers;
@@ -43,10 +44,11 @@ pub fn bare() -> Desk
     }
 }
 
-// The desk with its port opened; it holds no slot and no stream yet.
-pub fn open_port(d: Desk, p: PortNumbers) -> EditReply
-    requires { ⌜ Fit d ⌝ }
-    ensures { λ r. ⌜ (r ≡ editReply (edited (held d) (openPort (portOf p) (held d)))) × Fit (r .desk) ⌝ }
+// The desk with its port opened, whatever the stairs are: they are left as they were.
+pub fn hold_port(d: Desk, p: PortNumbers) -> EditReply
+    requires { ⌜ FitButStairs d ⌝ }
+    ensures { λ r. ⌜ (r ≡ holdReply d (edited (held d) (openPort (portOf p) (held d))))
+        × FitButStairs (r .desk) ⌝ }
 {
     if d.opened {
         return refuse(d, Refusal::OutOfTurn);
@@ -62,4 +64,12 @@ pub fn open_port(d: Desk, p: PortNumbers) -> EditReply
     e.guard = q.guard;
     e.header = q.header;
     accept(e)
+}
+
+// The desk with its port opened; it holds no slot and no stream yet.
+pub fn open_port(d: Desk, p: PortNumbers) -> EditReply
+    requires { ⌜ Fit d ⌝ }
+    ensures { λ r. ⌜ (r ≡ editReply (edited (held d) (openPort (portOf p) (held d)))) × Fit (r .desk) ⌝ }
+{
+    hold_port(d, p)
 }
