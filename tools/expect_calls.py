@@ -240,4 +240,5 @@ def main():
             print(f"{n} {op} {number} {values[0] if values else 0}")
 
 
-main()
+if __name__ == "__main__":
+    main()

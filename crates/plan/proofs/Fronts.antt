@@ -21,7 +21,7 @@ use Rattle.plan.specs.declared.FieldAt.{FieldAt}
 use Rattle.plan.specs.declared.FieldAt.the-variants as case
 use Rattle.plan.specs.declared.ValueAt.{ValueAt}
 use Rattle.plan.specs.declared.ValueAt.the-variants as value
-use Rattle.plan.specs.Reading.{fieldAt, valueAt}
+use Rattle.plan.specs.Reading.{fieldAt, valueAt, told}
 
 -- ---- numbers
 
@@ -155,13 +155,6 @@ module _ (plan : List ℕ) (at : ℕ) where
       go false c = refl
 
 -- ---- what a case tells
-
--- the answer that has this case
-abbrev pub told : FieldAt → Answer Field
-told (case.Port p) = accepted (portField p)
-told (case.Slot s) = accepted (slotField s)
-told (case.Stream j) = accepted (streamField j)
-told (case.Refused r) = refused r
 
 -- no two answers have the same case
 pub field-told : (f : FieldAt) (a : Answer Field) → f ≡ fieldAt a → a ≡ told f

@@ -1,2 +1,5 @@
 pub mod Fronts
+pub mod PlanLaws
 pub mod Rooms
+pub mod Walks
+pub mod Writes

@@ -55,13 +55,15 @@ module _ {A : Type 0} (field : A → Field) where
       ∙ ap (λ (l : List ℕ). octetsOfRow (take i xs) ++ l) (append-nil (fieldOctets (field (getD xs i d))))))
 
   module _ (k : ℕ) where
-    row-length : ((x : A) → fieldLength (field x) ≡ k) → (xs : List A) (i : ℕ) → i ≤ length xs
-        → length (octetsOfRow (take i xs)) ≡ k * i
-    row-length each xs i h =
-        joined-length fieldOctets (map field (take i xs))
-        ∙ total-map (λ (f : Field). length (fieldOctets f)) field (take i xs)
-        ∙ total-same (λ (x : A). length (fieldOctets (field x))) k (take i xs) (λ x. field-length (field x) ∙ each x)
-        ∙ ap (λ (m : ℕ). k * m) (length-take-le i xs h)
+    module _ (each : (x : A) → fieldLength (field x) ≡ k) where
+      pub row-octets : (xs : List A) → length (octetsOfRow xs) ≡ k * length xs
+      row-octets xs =
+          joined-length fieldOctets (map field xs)
+          ∙ total-map (λ (f : Field). length (fieldOctets f)) field xs
+          ∙ total-same (λ (x : A). length (fieldOctets (field x))) k xs (λ x. field-length (field x) ∙ each x)
+
+      row-length : (xs : List A) (i : ℕ) → i ≤ length xs → length (octetsOfRow (take i xs)) ≡ k * i
+      row-length xs i h = row-octets (take i xs) ∙ ap (λ (m : ℕ). k * m) (length-take-le i xs h)
 
     -- the loop that writes the first n of xs into the room r has come up to the i-th, at this place
     abbrev pub Filled : List ℕ → List A → ℕ → List ℕ → ℕ → ℕ → Type 0

@@ -1,16 +1,29 @@
--- What the functions that read a field answer.
+-- What reading a field, a step of the walk and a whole plan answer.
 use mathlib.Core.Bool.{cond}
-use mathlib.Core.List.{List}
+use mathlib.Core.List.{List, [], _∷_}
 use Prim.Native.Nat.{ℕ, _+_}
 use lib.ListN.{length}
 use lib.Dec.{ltb, eqb}
+use Rattle.meaning.specs.declared.Refusal.{Refusal}
 use Rattle.meaning.specs.declared.Refusal.the-variants.{CutShort, WrongLength}
-use Rattle.meaning.specs.Refusals.{Answer, accepted, refused}
-use Rattle.meaning.specs.Bytes.{numberAt, Field, portField, slotField, streamField}
+use Rattle.meaning.specs.Refusals.{Answer, accepted, refused, numberOf}
+use Rattle.meaning.specs.Desks.{Desk as Plan}
+use Rattle.meaning.specs.Bytes.{numberAt, Field, portField, slotField, streamField, fieldLength, edit}
+use Rattle.meaning.specs.Bytes.{Reading, going, stopped, Outcome, read, refusedAt, deskRead}
+use Rattle.desk.specs.declared.Desk.{Desk}
+use Rattle.desk.specs.declared.Verdict.the-variants as Verdicts
+use Rattle.desk.specs.Desks.{held, deskOf}
+use Rattle.desk.specs.Edits.{keepingStairs}
 use Rattle.plan.specs.declared.FieldAt.{FieldAt}
 use Rattle.plan.specs.declared.FieldAt.the-variants as case
 use Rattle.plan.specs.declared.ValueAt.{ValueAt}
 use Rattle.plan.specs.declared.ValueAt.the-variants as value
+use Rattle.plan.specs.declared.Walked.{Walked}
+use Rattle.plan.specs.declared.ReadAnswer.{ReadAnswer}
+use Rattle.plan.specs.declared.ReadAnswer.the-variants as reads
+use Rattle.plan.specs.declared.ReadReply.{ReadReply}
+
+-- ---- one field
 
 -- the case of a field that is read, or refused
 unfoldable pub fieldAt : Answer Field → FieldAt
@@ -25,3 +38,52 @@ valueAt n octets =
     cond (eqb (numberAt 1 2 octets) n)
     (cond (ltb (length octets) (3 + n)) (value.Refused CutShort) value.Whole)
     (value.Refused WrongLength)
+
+-- the answer that has this case
+abbrev pub told : FieldAt → Answer Field
+told (case.Port p) = accepted (portField p)
+told (case.Slot s) = accepted (slotField s)
+told (case.Stream j) = accepted (streamField j)
+told (case.Refused r) = refused r
+
+-- ---- a step of the walk
+
+-- how many octets it goes on
+unfoldable pub octetsAt : FieldAt → ℕ
+octetsAt (case.Port p) = 16
+octetsAt (case.Slot s) = 11
+octetsAt (case.Stream j) = 20
+octetsAt (case.Refused r) = 0
+
+-- the edit of a field that is read
+abbrev pub editTold : Answer Field → Plan → Answer Plan
+editTold (accepted f) e = edit f e
+editTold (refused r) e = refused r
+
+-- where a reading has come to, with the stairs that d has
+unfoldable pub walkedTo : Desk → Reading → Walked
+walkedTo d (going place octets e) = record { verdict = Verdicts.Accepted; at = place; desk = keepingStairs d e }
+walkedTo d (stopped r place) = record { verdict = Verdicts.Refused r; at = place; desk = keepingStairs d (held d) }
+
+-- ---- a whole plan
+
+abbrev pub readAnswer : Outcome → ReadAnswer
+readAnswer (read d) = reads.Read
+readAnswer (refusedAt r place) = reads.Refused r place
+
+-- "The reader answers number, the place [..] and the bare desk"
+abbrev pub readReply : Outcome → ReadReply
+readReply o = record { answer = readAnswer o; desk = deskOf (deskRead o) }
+
+-- a refusal with any desk
+abbrev pub refusing : Refusal → ℕ → Desk → ReadReply
+refusing why place d = record { answer = reads.Refused why place; desk = d }
+
+-- document 01's number of an answer, 0 where the plan is read, and the place it carries
+unfoldable pub readNumber : ReadAnswer → ℕ
+readNumber reads.Read = 0
+readNumber (reads.Refused r place) = numberOf r
+
+unfoldable pub readPlaces : ReadAnswer → List ℕ
+readPlaces reads.Read = []
+readPlaces (reads.Refused r place) = place ∷ []

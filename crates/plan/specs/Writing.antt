@@ -1,8 +1,14 @@
--- What the functions that write streams ask: the numbers fit their octets.
-use mathlib.Core.List.{List}
-use Prim.Native.Nat.{_<_}
+-- What the functions that write streams ask, the numbers fit their octets; and what writing a whole plan answers.
+use mathlib.Core.List.{List, [], _∷_}
+use Prim.Native.Nat.{ℕ, _<_}
 use Rattle.laws.specs.Lists.{Mem}
 use Rattle.meaning.specs.declared.Stream.{Stream}
+use Rattle.meaning.specs.Refusals.{Answer, accepted, refused, numberOf}
+use Rattle.meaning.specs.Desks.{Reply}
+use Rattle.desk.specs.Desks.{deskOf}
+use Rattle.plan.specs.declared.WriteAnswer.{WriteAnswer}
+use Rattle.plan.specs.declared.WriteAnswer.the-variants as writes
+use Rattle.plan.specs.declared.WriteReply.{WriteReply}
 
 -- "id (2), priority (1), octets (2)"; every other number of a stream has four octets, as it has where it is stored
 abbrev pub StreamFits : Stream → Type 0
@@ -10,3 +16,22 @@ StreamFits j = (j .id < 65_536) × (j .priority < 256) × (j .octets < 65_536)
 
 abbrev pub AllFit : List Stream → Type 0
 AllFit js = (j : Stream) → Mem j js → StreamFits j
+
+-- ---- a whole plan
+
+abbrev pub writeAnswer : Answer ℕ → WriteAnswer
+writeAnswer (accepted n) = writes.Wrote n
+writeAnswer (refused r) = writes.Refused r
+
+-- "It answers how many it wrote."
+abbrev pub writeReply : Reply ℕ → WriteReply
+writeReply r = record { answer = writeAnswer (r .answer); desk = deskOf (r .desk) }
+
+-- document 01's number of an answer, 0 where the plan is written, and the count it carries
+unfoldable pub writeNumber : WriteAnswer → ℕ
+writeNumber (writes.Wrote n) = 0
+writeNumber (writes.Refused r) = numberOf r
+
+unfoldable pub writeCounts : WriteAnswer → List ℕ
+writeCounts (writes.Wrote n) = n ∷ []
+writeCounts (writes.Refused r) = []

@@ -1,8 +1,17 @@
-// The plan's bytes (document 01): one field read at a place, and fields written into the rest of the caller's room.
+// The plan's bytes (document 01): one field read at a place, and fields written into the rest of the caller's room. The
+// two calls over a desk stand in `reading` and `writing`.
+mod reading;
+mod writing;
+
+use desk::Desk;
+use desk::Verdict;
 use meaning::Port;
 use meaning::Refusal;
 use meaning::Slot;
 use meaning::Stream;
+pub use reading::read;
+pub use reading::walk_on;
+pub use writing::write;
 ghost use mathlib.Core.Path.{_≡_};
 ghost use mathlib.Core.List.{_++_, map};
 ghost use Prim.Native.Nat.{_+_, _*_, _<_, _≤_};
@@ -18,6 +27,38 @@ pub enum FieldAt {
     Slot(Slot),
     Stream(Stream),
     Refused(Refusal),
+}
+
+// What reading a plan answers: its place, on a refusal, is that of the field's first octet.
+pub enum ReadAnswer {
+    Read,
+    Refused { why: Refusal, place: usize },
+}
+
+// The bare desk on a refusal.
+pub struct ReadReply {
+    pub answer: ReadAnswer,
+    pub desk: Desk,
+}
+
+// One field walked: the place behind it and the desk with its edit; or why it is refused, its place and the desk as it
+// was.
+pub struct Walked {
+    pub verdict: Verdict,
+    pub at: usize,
+    pub desk: Desk,
+}
+
+// What writing a plan answers: how many octets it wrote.
+pub enum WriteAnswer {
+    Wrote(usize),
+    Refused(Refusal),
+}
+
+// The desk is the one given.
+pub struct WriteReply {
+    pub answer: WriteAnswer,
+    pub desk: Desk,
 }
 
 // What a field's length and the octets left say of its value.
