@@ -3,9 +3,9 @@ ghost use mathlib.Core.Path.{_≡_};
 ghost use mathlib.Core.List.{[]};
 ghost use Prim.Native.Nat.{_+_, _≤_, _<_};
 ghost use lib.ListN.{length, drop};
-ghost use Rattle.meaning.specs.Desks.{edited};
+ghost use Rattle.meaning.specs.Desks.{bare, edited};
 ghost use Rattle.meaning.specs.Bytes.{going, step, ended, readPlan};
-ghost use Rattle.desk.specs.Desks.{held, Fit, portOf, streamOf};
+ghost use Rattle.desk.specs.Desks.{held, deskOf, Fit, portOf, streamOf};
 ghost use Rattle.desk.specs.Edits.{FitButStairs, holdReply};
 ghost use Rattle.plan.specs.Reading.{told, octetsAt, editTold, walkedTo, refusing, readReply};
 use crate::FieldAt;
@@ -111,13 +111,13 @@ fn refused_at(why: Refusal, place: usize, d: Desk) -> ReadReply
     }
 }
 
-// A plan at its end: the stairs are built once, for the slots then held. Without a field the desk is bare still.
-fn finish(d: Desk, at: usize) -> ReadReply
-    requires { ⌜ FitButStairs d ⌝ }
+// A plan at its end: the stairs are built once, for the slots then held. Without a field the bare desk goes back.
+fn finish(d: Desk, at: usize, none: Desk) -> ReadReply
+    requires { ⌜ FitButStairs d × (none ≡ deskOf bare) ⌝ }
     ensures { λ r. ⌜ (r ≡ readReply (ended (going at [] (held d)))) × Fit (r .desk) ⌝ }
 {
     if !d.opened {
-        return refused_at(Refusal::OutOfTurn, 0, desk::bare());
+        return refused_at(Refusal::OutOfTurn, 0, none);
     }
     ReadReply {
         answer: ReadAnswer::Read,
@@ -141,5 +141,5 @@ pub fn read(plan: &[u8]) -> ReadReply
         at = w.at;
         d = w.desk;
     }
-    finish(d, at)
+    finish(d, at, none)
 }

@@ -9,6 +9,7 @@ use Rattle.meaning.specs.Desks.{Desk as Plan}
 use Rattle.meaning.specs.Bytes.{going, ended, deskRead}
 use Rattle.desk.specs.declared.Desk.{Desk}
 use Rattle.desk.specs.Desks.{deskOf}
+use Rattle.desk.proofs.Held.{fit-bare}
 use Rattle.desk.proofs.Opened.{held-bare, open-desk}
 use Rattle.plan.specs.declared.ReadReply.{ReadReply}
 use Rattle.plan.specs.declared.ReadAnswer.the-variants.{Read}
@@ -16,29 +17,24 @@ use Rattle.plan.specs.Reading.{refusing, readReply}
 use Rattle.plan.proofs.reading.finish.Statement.{statement}
 use Rattle.plan.proofs.reading.finish.Tie as tie
 
-bare-requires : tie.Need-bare-requires
-bare-requires c κs = search needs
-
 refused-at-requires : tie.Need-refused-at-requires
 refused-at-requires c κs = search needs
 
 returns : tie.Need-returns
 unfolding ended deskRead
 returns c =
-    let n = c .before in
-    let b = n .before .before .before in
+    let b = c .before .before .before in
     let a = b .args in
-    let (same, fit) = n .bare .ensures in
-    let shut = held-bare (a .d) (not-true _ (n .before .if1 .taken)) in
+    let shut = held-bare (a .d) (not-true _ (c .before .if1 .taken)) in
     let reply = c .refused-at .ensures in (
       reply
-          ∙ ap (refusing OutOfTurn 0) same
+          ∙ ap (refusing OutOfTurn 0) (b .pre .1)
           ∙ sym (ap (λ (e : Plan). readReply (ended (going (a .at) [] e))) shut),
-      rw reply fit,
+      rw (reply, b .pre .1) fit-bare,
     )
 
 with-stairs-requires : tie.Need-with-stairs-requires
-with-stairs-requires c κs = (c .before .before .pre, not-false _ (c .if1 .left))
+with-stairs-requires c κs = (c .before .before .pre .0, not-false _ (c .if1 .left))
 
 returns-2 : tie.Need-returns-2
 unfolding ended deskRead
@@ -46,11 +42,11 @@ returns-2 c =
     let b = c .before .before .before in
     let a = b .args in
     let (same, fit) = c .with-stairs .ensures in
-    let h = open-desk (a .d) (b .pre) (not-false _ (c .before .if1 .left)) .holds in
+    let h = open-desk (a .d) (b .pre .0) (not-false _ (c .before .if1 .left)) .holds in
     let with-it : Desk → ReadReply = λ x. record { answer = Read; desk = x } in (
       ap with-it (same ∙ ap deskOf h) ∙ sym (ap (λ (e : Plan). readReply (ended (going (a .at) [] e))) h),
       fit,
     )
 
 pub finish-spec : {M : Type 1} → statement M
-finish-spec = tie.close (tie.spec bare-requires refused-at-requires returns with-stairs-requires returns-2)
+finish-spec = tie.close (tie.spec refused-at-requires returns with-stairs-requires returns-2)

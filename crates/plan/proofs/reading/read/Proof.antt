@@ -89,7 +89,7 @@ loop-again c =
     (fit, within, read-turn plan (h .loop .at) _ (h .loop .inv .2) _ _ (goes (c .before) .1))
 
 finish-requires : tie.Need-finish-requires Inv-loop μ-loop
-finish-requires c κs = c .before .loop .inv .0
+finish-requires c κs = (c .before .loop .inv .0, c .before .before .bare .ensures .0)
 
 returns-2 : tie.Need-returns-2 Inv-loop μ-loop
 returns-2 c =
