@@ -22,10 +22,11 @@ use Rattle.desk.specs.declared.EditReply.{EditReply}
 use Rattle.desk.specs.Desks.{held}
 use Rattle.desk.specs.Edits.{holdReply}
 use Rattle.desk.proofs.Opened.{held-keeping}
-use Rattle.plan.specs.declared.FieldAt.{FieldAt}
+use Rattle.fields.specs.declared.FieldAt.{FieldAt}
 use Rattle.plan.specs.declared.Walked.{Walked}
-use Rattle.plan.specs.Reading.{fieldAt, told, octetsAt, editTold, walkedTo}
-use Rattle.plan.proofs.Fronts.{field-told}
+use Rattle.fields.specs.Reading.{fieldAt, told}
+use Rattle.plan.specs.Reading.{octetsAt, editTold, walkedTo}
+use Rattle.fields.proofs.Fronts.{field-told}
 
 -- ---- one step
 

@@ -26,8 +26,9 @@ use Rattle.desk.specs.Desks.{held, Fit, portIn, slotsIn, streamsIn}
 use Rattle.desk.proofs.Opened.{Open, held-bare, fit-but-stairs, open-desk}
 use Rattle.plan.specs.declared.WriteAnswer.the-variants.{Wrote, Refused}
 use Rattle.plan.specs.declared.WriteReply.{WriteReply}
-use Rattle.plan.specs.Writing.{AllFit, writeAnswer, writeReply}
-use Rattle.plan.proofs.Rooms.{octetsOfRow, row-octets, fill-next}
+use Rattle.fields.specs.Writing.{AllFit}
+use Rattle.plan.specs.Writing.{writeAnswer, writeReply}
+use Rattle.fields.proofs.Rooms.{octetsOfRow, row-octets, fill-next}
 
 -- ---- what an open desk gives
 

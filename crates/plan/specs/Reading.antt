@@ -1,50 +1,20 @@
--- What reading a field, a step of the walk and a whole plan answer.
-use mathlib.Core.Bool.{cond}
+-- What a step of the walk and reading a whole plan answer.
 use mathlib.Core.List.{List, [], _∷_}
-use Prim.Native.Nat.{ℕ, _+_}
-use lib.ListN.{length}
-use lib.Dec.{ltb, eqb}
+use Prim.Native.Nat.{ℕ}
 use Rattle.meaning.specs.declared.Refusal.{Refusal}
-use Rattle.meaning.specs.declared.Refusal.the-variants.{CutShort, WrongLength}
 use Rattle.meaning.specs.Refusals.{Answer, accepted, refused, numberOf}
 use Rattle.meaning.specs.Desks.{Desk as Plan}
-use Rattle.meaning.specs.Bytes.{numberAt, Field, portField, slotField, streamField, fieldLength, edit}
-use Rattle.meaning.specs.Bytes.{Reading, going, stopped, Outcome, read, refusedAt, deskRead}
+use Rattle.meaning.specs.Bytes.{Field, edit, Reading, going, stopped, Outcome, read, refusedAt, deskRead}
+use Rattle.fields.specs.declared.FieldAt.{FieldAt}
+use Rattle.fields.specs.declared.FieldAt.the-variants as case
 use Rattle.desk.specs.declared.Desk.{Desk}
 use Rattle.desk.specs.declared.Verdict.the-variants as Verdicts
 use Rattle.desk.specs.Desks.{held, deskOf}
 use Rattle.desk.specs.Edits.{keepingStairs}
-use Rattle.plan.specs.declared.FieldAt.{FieldAt}
-use Rattle.plan.specs.declared.FieldAt.the-variants as case
-use Rattle.plan.specs.declared.ValueAt.{ValueAt}
-use Rattle.plan.specs.declared.ValueAt.the-variants as value
 use Rattle.plan.specs.declared.Walked.{Walked}
 use Rattle.plan.specs.declared.ReadAnswer.{ReadAnswer}
 use Rattle.plan.specs.declared.ReadAnswer.the-variants as reads
 use Rattle.plan.specs.declared.ReadReply.{ReadReply}
-
--- ---- one field
-
--- the case of a field that is read, or refused
-unfoldable pub fieldAt : Answer Field → FieldAt
-fieldAt (accepted (portField p)) = case.Port p
-fieldAt (accepted (slotField s)) = case.Slot s
-fieldAt (accepted (streamField j)) = case.Stream j
-fieldAt (refused r) = case.Refused r
-
--- what the length and the octets left say of a value of n octets: "Order in a field: [..] 3; value cut 1"
-unfoldable pub valueAt : ℕ → List ℕ → ValueAt
-valueAt n octets =
-    cond (eqb (numberAt 1 2 octets) n)
-    (cond (ltb (length octets) (3 + n)) (value.Refused CutShort) value.Whole)
-    (value.Refused WrongLength)
-
--- the answer that has this case
-abbrev pub told : FieldAt → Answer Field
-told (case.Port p) = accepted (portField p)
-told (case.Slot s) = accepted (slotField s)
-told (case.Stream j) = accepted (streamField j)
-told (case.Refused r) = refused r
 
 -- ---- a step of the walk
 

@@ -1,23 +1,12 @@
--- What the functions that write streams ask, the numbers fit their octets; and what writing a whole plan answers.
+-- What writing a whole plan answers.
 use mathlib.Core.List.{List, [], _∷_}
-use Prim.Native.Nat.{ℕ, _<_}
-use Rattle.laws.specs.Lists.{Mem}
-use Rattle.meaning.specs.declared.Stream.{Stream}
+use Prim.Native.Nat.{ℕ}
 use Rattle.meaning.specs.Refusals.{Answer, accepted, refused, numberOf}
 use Rattle.meaning.specs.Desks.{Reply}
 use Rattle.desk.specs.Desks.{deskOf}
 use Rattle.plan.specs.declared.WriteAnswer.{WriteAnswer}
 use Rattle.plan.specs.declared.WriteAnswer.the-variants as writes
 use Rattle.plan.specs.declared.WriteReply.{WriteReply}
-
--- "id (2), priority (1), octets (2)"; every other number of a stream has four octets, as it has where it is stored
-abbrev pub StreamFits : Stream → Type 0
-StreamFits j = (j .id < 65_536) × (j .priority < 256) × (j .octets < 65_536)
-
-abbrev pub AllFit : List Stream → Type 0
-AllFit js = (j : Stream) → Mem j js → StreamFits j
-
--- ---- a whole plan
 
 abbrev pub writeAnswer : Answer ℕ → WriteAnswer
 writeAnswer (accepted n) = writes.Wrote n

@@ -7,17 +7,17 @@ ghost use Rattle.meaning.specs.Desks.{bare, edited};
 ghost use Rattle.meaning.specs.Bytes.{going, step, ended, readPlan};
 ghost use Rattle.desk.specs.Desks.{held, deskOf, Fit, portOf, streamOf};
 ghost use Rattle.desk.specs.Edits.{FitButStairs, holdReply};
-ghost use Rattle.plan.specs.Reading.{told, octetsAt, editTold, walkedTo, refusing, readReply};
-use crate::FieldAt;
+ghost use Rattle.fields.specs.Reading.{told};
+ghost use Rattle.plan.specs.Reading.{octetsAt, editTold, walkedTo, refusing, readReply};
 use crate::ReadAnswer;
 use crate::ReadReply;
 use crate::Walked;
-use crate::step;
 use desk::Desk;
 use desk::EditReply;
 use desk::PortNumbers;
 use desk::StreamNumbers;
 use desk::Verdict;
+use fields::FieldAt;
 use meaning::Port;
 use meaning::Refusal;
 use meaning::Stream;
@@ -82,7 +82,7 @@ pub fn walk_on(plan: &[u8], at: usize, d: Desk) -> Walked
     ensures { λ r. ⌜ (r ≡ walkedTo d (step (going at (drop at (now (plan .entry))) (held d))))
         × (r .at ≤ length (now (plan .entry))) × FitButStairs (r .desk) ⌝ }
 {
-    let f = step(plan, at);
+    let f = fields::step(plan, at);
     let behind = at + octets_at(f);
     let made = edit(d, f);
     let verdict = made.verdict;

@@ -7,10 +7,10 @@ ghost use Rattle.desk.specs.Desks.{held, Fit};
 ghost use Rattle.plan.specs.Writing.{writeReply};
 use crate::WriteAnswer;
 use crate::WriteReply;
-use crate::put_port;
-use crate::put_slots;
-use crate::put_streams;
 use desk::Desk;
+use fields::put_port;
+use fields::put_slots;
+use fields::put_streams;
 use meaning::Port;
 use meaning::Refusal;
 

@@ -12,8 +12,9 @@ use Rattle.desk.specs.declared.Desk.{Desk}
 use Rattle.desk.specs.declared.EditReply.{EditReply}
 use Rattle.desk.specs.Desks.{held, slotOf}
 use Rattle.desk.proofs.Answers.{Holds, refusal-holds}
-use Rattle.plan.specs.declared.FieldAt.{FieldAt}
-use Rattle.plan.specs.Reading.{told, editTold}
+use Rattle.fields.specs.declared.FieldAt.{FieldAt}
+use Rattle.fields.specs.Reading.{told}
+use Rattle.plan.specs.Reading.{editTold}
 use Rattle.plan.proofs.reading.edit.Statement.{statement}
 use Rattle.plan.proofs.reading.edit.Tie as tie
 
