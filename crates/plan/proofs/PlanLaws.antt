@@ -1,15 +1,17 @@
 -- What document 01 says of plans, told of what `plan::read` and `plan::write` answer.
 -- Assumes nothing.
 use mathlib.Core.Path.{_≡_, refl, sym, ap, subst, _∙_}
-use mathlib.Core.Logic.{_↔_, _⊎_, _≢_, Iff·trans}
+use mathlib.Core.Logic.{_↔_, _⊎_, _≢_, Iff·trans, by-cases}
 use mathlib.Core.Bool.{Bool, true, false}
 use mathlib.Core.List.{List, [], _∷_, _++_}
 use Prim.Native.Nat.{ℕ, _+_, _*_, _≤_, _<_}
+use native.Mathlib.Decide.{decLe}
 use native.Mathlib.Omega.{arith}
 use lib.ListN.{length, take, drop}
 use Rattle.laws.specs.Lists.{joined, Mem}
 use Rattle.meaning.specs.declared.Port.{Port}
 use Rattle.meaning.specs.declared.Refusal.{Refusal}
+use Rattle.meaning.specs.declared.Refusal.the-variants.{OutOfTurn, NoRoom}
 use Rattle.meaning.specs.Refusals.{Answer, accepted, refused, numberOf}
 use Rattle.meaning.specs.Desks.{bare, opened, edited, asked}
 use Rattle.meaning.specs.Desks.{Desk as Plan}
@@ -20,7 +22,7 @@ use Rattle.meaning.specs.Plans.{MadeOf, AcceptedPlan, InWritersOrder, SameByTag
 use Rattle.meaning.proofs.Refusing.{accepted≢refused, accepted-is}
 use Rattle.meaning.proofs.Octets.{Octets}
 use Rattle.meaning.proofs.Fields.{FieldFits}
-use Rattle.meaning.proofs.Plans.{plan-octets-length, write-accepted, room-front, write-says}
+use Rattle.meaning.proofs.Plans.{plan-octets-length, write-accepted, room-front, room-untouched, write-says}
 use Rattle.meaning.proofs.Readings.{editAll, edit-first}
 use Rattle.meaning.proofs.Accepted.{EmptyPlan, RefusedField, accepted-when, refused-when, accepted-edits}
 use Rattle.meaning.proofs.Accepted.{accepted-sound, accepted-short}
@@ -36,11 +38,11 @@ use Rattle.desk.proofs.Held.{held-of, fit-of, no-second-reply}
 use Rattle.desk.proofs.Opened.{held-bare}
 use Rattle.plan.specs.declared.ReadAnswer.the-variants as reads
 use Rattle.plan.specs.declared.ReadReply.{ReadReply}
-use Rattle.plan.specs.declared.WriteAnswer.the-variants.{Wrote}
+use Rattle.plan.specs.declared.WriteAnswer.the-variants.{Wrote, Refused}
 use Rattle.plan.specs.declared.WriteReply.{WriteReply}
 use Rattle.plan.specs.Reading.{readReply}
-use Rattle.plan.specs.Writing.{writeReply}
-use Rattle.plan.proofs.Writes.{Writes, length-of, write-open}
+use Rattle.plan.specs.Writing.{writeReply, writeNumber}
+use Rattle.plan.proofs.Writes.{lengthIn, Writes, length-of, write-closed, write-no-room, write-open}
 
 -- ---- what the two calls answer, by their contracts
 
@@ -61,6 +63,10 @@ ReadAs octets d = readOf octets ≡ record { answer = reads.Read; desk = d }
 -- n octets of this desk are written
 abbrev pub WroteOf : Desk → List ℕ → ℕ → Type 0
 WroteOf d room n = writeOf d room ≡ record { answer = Wrote n; desk = d }
+
+-- nothing is written of it, for this reason
+abbrev pub WriteRefused : Desk → List ℕ → Refusal → Type 0
+WriteRefused d room why = writeOf d room ≡ record { answer = Refused why; desk = d }
 
 -- ---- no second reply
 
@@ -148,7 +154,7 @@ unfolding editAll
 calls-edits [] e d q = (e, sym q, refl)
 calls-edits (f ∷ fs) e d (c, a, b) =
     let (h, q, s) = call-made f e c (rw (held-of e) at a) in
-    rw q (calls-edits fs h d (subst (λ (x : Desk). CallsTo fs x d) s b))
+    rw q (calls-edits fs h d (rw s at b))
 
 -- reading a plan is making the edits of its fields, one by one, from the bare desk
 pub read-calls : (octets : List ℕ) (d : Desk)
@@ -245,7 +251,7 @@ module _ (d : Desk) (f : Fit d) (room : List ℕ) where
         let (q, e, fits) = wrote d room n w in
         let o = open-one (d .opened) refl q in
         (o, e ∙ length-of d f o, omega arith),
-    λ (o, e, l). sym (write-open d f room o n e l _ refl .0),
+    λ (o, e, l). rw e (sym (write-open d f room o (rw e at l) _ refl .0)),
   )
     where
       open-one : (b : Bool) → d .opened ≡ b → writePlan room (held d) ≡ accepted (planOctets (held d))
@@ -264,6 +270,65 @@ module _ (d : Desk) (f : Fit d) (room : List ℕ) where
       back : (e : Plan) → SoundDesk e → writePlan room e ≡ accepted (planOctets e) → readPlan (planOctets e) ≡ read e
       back bare s q = absurd (accepted≢refused (sym q))
       back (opened p ss js) s q = written-reads-back p ss js s
+
+  -- so of every open desk, in any room that is long enough
+  pub open-reads-back : d .opened ≡ true → lengthIn d ≤ length room
+      → WroteOf d room (lengthIn d) × ReadAs (take (lengthIn d) (leftIn d room)) d
+  open-reads-back o l =
+      let w = written-when (lengthIn d) .1 (o, refl, l) in
+      (w, written-reads (lengthIn d) w)
+
+  -- ---- what is refused
+
+  -- two replies with two numbers are not one
+  numbered-apart : (r s : WriteReply) → writeNumber (r .answer) ≢ writeNumber (s .answer) → r ≡ writeOf d room
+      → ¬ (writeOf d room ≡ s)
+  numbered-apart r s ne a b = ne (ap (λ (x : WriteReply). writeNumber (x .answer)) (a ∙ b))
+
+  -- the desk is bare; or it is open, and the room too short or long enough
+  by-room : {X : Type 0} → (d .opened ≡ false → X) → (d .opened ≡ true → length room < lengthIn d → X)
+      → (d .opened ≡ true → lengthIn d ≤ length room → X) → X
+  by-room {X} closed short long = go (d .opened) refl
+    where
+      go : (b : Bool) → d .opened ≡ b → X
+      go false o = closed o
+      go true o = by-cases (decLe (lengthIn d) (length room)) (long o) (λ l. short o (omega arith))
+
+  -- 4 exactly where the desk is bare
+  pub writes-4 : WriteRefused d room OutOfTurn ↔ (d .opened ≡ false)
+  unfolding writeNumber numberOf
+  writes-4 = (
+    λ r.
+        by-room (λ o. o)
+        (λ o l. absurd (numbered-apart _ _ (λ e. omega arith) (write-no-room d f room o l .0) r))
+        (λ o l. absurd (numbered-apart _ _ (λ e. omega arith) (write-open d f room o l _ refl .0) r)),
+    λ o. sym (write-closed d f room o .0),
+  )
+
+  -- 11 exactly where it is open and the room is too short
+  pub writes-11 : WriteRefused d room NoRoom ↔ ((d .opened ≡ true) × (length room < lengthIn d))
+  unfolding writeNumber numberOf
+  writes-11 = (
+    λ r.
+        by-room (λ o. absurd (numbered-apart _ _ (λ e. omega arith) (write-closed d f room o .0) r)) (λ o l. (o, l))
+        (λ o l. absurd (numbered-apart _ _ (λ e. omega arith) (write-open d f room o l _ refl .0) r)),
+    λ (o, l). sym (write-no-room d f room o l .0),
+  )
+
+  -- a refusal leaves every octet of the room as it was
+  pub refused-room : (why : Refusal) → WriteRefused d room why → leftIn d room ≡ room
+  unfolding asked written
+  refused-room why = go (writePlan room (held d)) refl
+    where
+      go : (a : Answer (List ℕ)) → writePlan room (held d) ≡ a
+          → writeReply (asked (held d) (written a)) ≡ record { answer = Refused why; desk = d } → leftIn d room ≡ room
+      go (refused w) q r = room-untouched room (held d) w q
+      go (accepted octets) q r =
+          let v = ap (λ (x : WriteReply). x .answer) r in
+          let z : _≡_ {A = ℕ} 0 1 = cc in
+          absurd (omega arith)
+
+-- ---- what is written back
 
 -- octets of a desk that fit the room are written
 writes : (room : List ℕ) (e : Plan) → 0 < length (planOctets e) → length (planOctets e) ≤ length room

@@ -32,12 +32,18 @@ use Rattle.fields.proofs.Rooms.{octetsOfRow, row-octets, fill-next}
 
 -- ---- what an open desk gives
 
+-- where the streams begin, and the length: "16 + 11 x slots + 20 x streams octets"
+abbrev pub streamsAt : Desk → ℕ
+streamsAt d = 16 + 11 * d .nslots
+
+abbrev pub lengthIn : Desk → ℕ
+lengthIn d = streamsAt d + 20 * d .nstreams
+
 module _ (d : Desk) (f : Fit d) (o : d .opened ≡ true) where
   pub open-of : Open d
   open-of = open-desk d (fit-but-stairs d f) o
 
-  -- "16 + 11 x slots + 20 x streams octets"
-  pub length-of : planLength (held d) ≡ 16 + 11 * d .nslots + 20 * d .nstreams
+  pub length-of : planLength (held d) ≡ lengthIn d
   length-of =
       let h = open-of in
       ap planLength (h .holds) ∙ plan-length (portIn d) (slotsIn d) (streamsIn d)
@@ -65,26 +71,31 @@ plan-parts p ss js =
     ∙ ap (λ (l : List ℕ). fieldOctets (portField p) ++ l)
     (sym (joined-append fieldOctets (map slotField ss) (map streamField js)))
 
+-- what is left of a room from a place on, as it is lent, and the room with it filled
+abbrev restFrom : ℕ → List ℕ → List ℕ
+restFrom at xs = midOf at (length xs - at) xs
+
+abbrev filledFrom : ℕ → List ℕ → List ℕ → List ℕ
+filledFrom at xs ys = putMid at (length xs - at) xs ys
+
 module _ (d : Desk) (h : Open d) (room : List ℕ) where
-  -- PORT is written at a, the slots fill the rest of it, b, from 16 on, and the streams the rest of c behind them
+  -- PORT in front leaves a, the slots leave b of its rest, and the streams leave c of the rest behind them
   pub room-filled : (a b c : List ℕ) → a ≡ fieldOctets (portField (portIn d)) ++ drop 16 room
-      → b ≡ octetsOfRow slotField (slotsIn d) ++ drop (11 * d .nslots) (midOf 16 (length a - 16) a)
-      → (at : ℕ) → at ≡ 16 + 11 * d .nslots → (all : ℕ) → all ≡ at + 20 * d .nstreams
-      → (m : List ℕ) → m ≡ putMid 16 (length a - 16) a b
-      → c ≡ octetsOfRow streamField (streamsIn d) ++ drop (20 * d .nstreams) (midOf at (length m - at) m)
-      → putMid at (length m - at) m c ≡ planOctets (held d) ++ drop all room
+      → b ≡ octetsOfRow slotField (slotsIn d) ++ drop (11 * d .nslots) (restFrom 16 a)
+      → c ≡ octetsOfRow streamField (streamsIn d)
+      ++ drop (20 * d .nstreams) (restFrom (streamsAt d) (filledFrom 16 a b))
+      → filledFrom (streamsAt d) (filledFrom 16 a b) c ≡ planOctets (held d) ++ drop (lengthIn d) room
   unfolding fieldLength tagOf valueLength
-  room-filled a b c port slots at e all g m n streams =
+  room-filled a b c port slots streams =
       let first = fieldOctets (portField (portIn d)) in
       let one : length first ≡ 16 = field-length (portField (portIn d)) in
       let second = octetsOfRow slotField (slotsIn d) in
-      let two : length (first ++ second) ≡ at =
+      let two : length (first ++ second) ≡ streamsAt d =
       omega (arith, length-append first second, row-octets slotField 11 (λ s. refl) (slotsIn d), h .slots-count) in
       let third = octetsOfRow streamField (streamsIn d) in
-      let filled : m ≡ (first ++ second) ++ drop at room =
-      n ∙ fill-next 16 (11 * d .nslots) a b first second room one port slots ∙ rw e in
-      fill-next at (20 * d .nstreams) m c (first ++ second) third room two filled streams
-      ∙ rw (g, h .holds, ← plan-parts (portIn d) (slotsIn d) (streamsIn d))
+      fill-next (streamsAt d) (20 * d .nstreams) (filledFrom 16 a b) c (first ++ second) third room two
+      (fill-next 16 (11 * d .nslots) a b first second room one port slots) streams
+      ∙ rw (h .holds, ← plan-parts (portIn d) (slotsIn d) (streamsIn d))
 
 -- ---- the reply
 
@@ -105,26 +116,26 @@ module _ (d : Desk) (f : Fit d) (room : List ℕ) where
   unfolding writePlan written roomAfter
   write-closed o = reply-is (refused OutOfTurn) (ap (writePlan room) (held-bare d o)) room refl
 
-  module _ (o : d .opened ≡ true) (all : ℕ) (e : all ≡ 16 + 11 * d .nslots + 20 * d .nstreams) where
-    all-of : planLength (opened (portIn d) (slotsIn d) (streamsIn d)) ≡ all
-    all-of = ap planLength (sym (open-of d f o .holds)) ∙ length-of d f o ∙ sym e
-
-    pub write-no-room : length room < all → Writes d room (record { answer = Refused NoRoom; desk = d }) room
+  module _ (o : d .opened ≡ true) where
+    pub write-no-room : length room < lengthIn d
+        → Writes d room (record { answer = Refused NoRoom; desk = d }) room
     unfolding written roomAfter
     write-no-room l =
+        let e = open-of d f o .holds in
         reply-is (refused NoRoom)
-        (ap (writePlan room) (open-of d f o .holds)
-        ∙ write-says room (portIn d) (slotsIn d) (streamsIn d) .no-room .1 (omega (arith, all-of)))
+        (ap (writePlan room) e
+        ∙ write-says room (portIn d) (slotsIn d) (streamsIn d) .no-room .1
+        (omega (arith, length-of d f o, ap planLength e)))
         room refl
 
-    pub write-open : all ≤ length room → (after : List ℕ) → after ≡ planOctets (held d) ++ drop all room
-        → Writes d room (record { answer = Wrote all; desk = d }) after
+    pub write-open : lengthIn d ≤ length room → (after : List ℕ)
+        → after ≡ planOctets (held d) ++ drop (lengthIn d) room
+        → Writes d room (record { answer = Wrote (lengthIn d); desk = d }) after
     unfolding written roomAfter
     write-open l after g =
-        let h = open-of d f o in
+        let e = open-of d f o .holds in
         let says = write-says room (portIn d) (slotsIn d) (streamsIn d) in
-        let long : length (planOctets (held d)) ≡ all =
-        plan-octets-length (held d) ∙ length-of d f o ∙ sym e in
-        let accepts = says .accepts (planOctets (held d)) .1 (omega (arith, all-of), ap planOctets (h .holds)) in
-        rw long at
-        (reply-is (accepted (planOctets (held d))) (ap (writePlan room) (h .holds) ∙ accepts) after (rw long g))
+        let accepts =
+        says .accepts (planOctets (held d)) .1 (omega (arith, length-of d f o, ap planLength e), ap planOctets e) in
+        let long = plan-octets-length (held d) ∙ length-of d f o in
+        rw long at (reply-is (accepted (planOctets (held d))) (ap (writePlan room) e ∙ accepts) after (rw long g))

@@ -1,6 +1,6 @@
 -- What a step of the walk and reading a whole plan answer.
 use mathlib.Core.List.{List, [], _∷_}
-use Prim.Native.Nat.{ℕ}
+use Prim.Native.Nat.{ℕ, _+_}
 use Rattle.meaning.specs.declared.Refusal.{Refusal}
 use Rattle.meaning.specs.Refusals.{Answer, accepted, refused, numberOf}
 use Rattle.meaning.specs.Desks.{Desk as Plan}
@@ -18,11 +18,11 @@ use Rattle.plan.specs.declared.ReadReply.{ReadReply}
 
 -- ---- a step of the walk
 
--- how many octets it goes on
+-- how many octets it goes on: "one-byte tag, two-byte length, value"
 unfoldable pub octetsAt : FieldAt → ℕ
-octetsAt (case.Port p) = 16
-octetsAt (case.Slot s) = 11
-octetsAt (case.Stream j) = 20
+octetsAt (case.Port p) = 3 + 13
+octetsAt (case.Slot s) = 3 + 8
+octetsAt (case.Stream j) = 3 + 17
 octetsAt (case.Refused r) = 0
 
 -- the edit of a field that is read

@@ -1,13 +1,12 @@
 -- `plan::write` meets its contract: where the whole plan has room, each field fills the front of what is left.
 -- Assumes nothing.
-use mathlib.Core.Path.{refl}
-use Prim.Native.Nat.{_+_, _*_, _≤_, _<_}
+use Prim.Native.Nat.{_≤_, _<_}
 use native.Mathlib.Omega.{arith}
 use lib.ListN.{length}
 use borrow.Author.Needs.{needs}
 use borrow.Author.Tests.{not-true, not-false}
-use Rattle.plan.proofs.Writes.{open-of, rate-fits, streams-fit, room-filled, write-closed, write-no-room}
-use Rattle.plan.proofs.Writes.{write-open}
+use Rattle.plan.proofs.Writes.{lengthIn, open-of, rate-fits, streams-fit, room-filled}
+use Rattle.plan.proofs.Writes.{write-closed, write-no-room, write-open}
 use Rattle.plan.proofs.writing.write.Statement.{statement}
 use Rattle.plan.proofs.writing.write.Tie as tie
 
@@ -47,8 +46,8 @@ returns-2 c =
     let s = o .before .before .before in
     let d = s .args .d in
     let room = s .args .out .now in
-    let short : length room < 16 + 11 * d .nslots + 20 * d .nstreams = c .if2 .taken in
-    write-no-room d (s .pre) room (not-false _ (o .if1 .left)) _ refl short
+    let short : length room < lengthIn d = omega (arith, c .if2 .taken) in
+    write-no-room d (s .pre) room (not-false _ (o .if1 .left)) short
 
 put-port-requires : tie.Need-put-port-requires
 put-port-requires c κs =
@@ -103,13 +102,14 @@ returns-3 c =
     let t = first .before .before .before .before in
     let o = t .before in
     let s = o .before .before .before in
-    let isOpen = not-false _ (o .if1 .left) in
     let d = s .args .d in
+    let isOpen = not-false (d .opened) (o .if1 .left) in
     let room = s .args .out .now in
-    let whole : 16 + 11 * d .nslots + 20 * d .nstreams ≤ length room = t .if2 .left in
-    write-open d (s .pre) room isOpen _ refl whole _
-    (room-filled d (open-of d (s .pre) isOpen) room _ _ _ (first .put-port .ensures) (second .put-slots .ensures .1)
-    _ refl _ refl _ refl (third .put-streams .ensures .1))
+    let whole : lengthIn d ≤ length room = omega (arith, t .if2 .left) in
+    let filled =
+    room-filled d (open-of d (s .pre) isOpen) room _ _ _ (first .put-port .ensures) (second .put-slots .ensures .1)
+    (third .put-streams .ensures .1) in
+    write-open d (s .pre) room isOpen whole _ filled
 
 pub write-spec : {M : Type 1} → statement M
 write-spec =
