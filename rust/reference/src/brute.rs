@@ -26,10 +26,7 @@ pub fn runs(port: &Port, slots: &[Slot]) -> Option<Vec<Run>> {
     }
     let begins = |cell: usize| blocked[cell] && !blocked[(cell + cycle - 1) % cycle];
     let length = |from: usize| (from..).take_while(|cell| blocked[cell % cycle]).count();
-    let run = |from| Run {
-        start: from as u64,
-        length: length(from) as u64,
-    };
+    let run = |from| Run { start: from as u64, length: length(from) as u64 };
     Some((0..cycle).filter(|&cell| begins(cell)).map(run).collect())
 }
 
@@ -87,9 +84,8 @@ pub fn pairs(cycle: u64, runs: &[Run]) -> Vec<Stair> {
 /// The distinct pairs that no other pair covers, by rising distance.
 pub fn stairs(cycle: u64, runs: &[Run]) -> Vec<Stair> {
     let pairs = pairs(cycle, runs);
-    let covers = |other: &Stair, pair: &Stair| {
-        other != pair && other.distance <= pair.distance && other.total >= pair.total
-    };
+    let covers =
+        |other: &Stair, pair: &Stair| other != pair && other.distance <= pair.distance && other.total >= pair.total;
     let uncovered = |pair: &&Stair| !pairs.iter().any(|other| covers(other, pair));
     let mut stairs: Vec<Stair> = pairs.iter().filter(uncovered).copied().collect();
     stairs.sort();
@@ -116,10 +112,7 @@ pub fn responses(plan: &Open, stream: &Stream, limit: u64) -> Option<Vec<u64>> {
         let mut waits = (0..=window).zip(interferences);
         let wait = waits.find(|&(w, v)| load.before_frame(q, w) + v <= w);
         let (wait, _) = wait.expect("every frame of a busy window starts in it");
-        assert!(
-            wait + load.own.wire <= window,
-            "frame {q} ends after its window"
-        );
+        assert!(wait + load.own.wire <= window, "frame {q} ends after its window");
         load.response(q, wait)
     };
     Some((1..=load.own.frames(window)).map(response).collect())

@@ -101,11 +101,7 @@ impl Desk {
         if !port.in_range() {
             return (self, Err(Refusal::OutOfRange));
         }
-        let open = Open {
-            port,
-            slots: Vec::new(),
-            streams: Vec::new(),
-        };
+        let open = Open { port, slots: Vec::new(), streams: Vec::new() };
         (Desk::Open(open), Ok(()))
     }
 

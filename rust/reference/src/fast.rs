@@ -49,10 +49,7 @@ pub fn runs(port: &Port, slots: &[Slot]) -> Option<Vec<Run>> {
         let (_, to) = joined.remove(0);
         joined.last_mut().expect("two stretches at least").1 += to;
     }
-    let run = |&(from, to): &(u64, u64)| Run {
-        start: from,
-        length: to - from,
-    };
+    let run = |&(from, to): &(u64, u64)| Run { start: from, length: to - from };
     Some(joined.iter().map(run).collect())
 }
 
@@ -86,11 +83,7 @@ pub struct Table {
 
 impl Table {
     pub fn new(cycle: u64, runs: &[Run]) -> Table {
-        Table {
-            cycle,
-            blocked: runs.iter().map(|run| run.length).sum(),
-            stairs: stairs(cycle, runs),
-        }
+        Table { cycle, blocked: runs.iter().map(|run| run.length).sum(), stairs: stairs(cycle, runs) }
     }
 
     fn of(plan: &Open) -> Table {
@@ -145,10 +138,7 @@ pub fn responses(plan: &Open, stream: &Stream, limit: u64) -> Option<Vec<u64>> {
         // A later frame has more before it, so it waits no less than the one before: a search may start there.
         let need = |w| load.before_frame(q, w) + table.interference(w + load.own.wire);
         wait = least(wait, window, need).expect("every frame of a busy window starts in it");
-        assert!(
-            wait + load.own.wire <= window,
-            "frame {q} ends after its window"
-        );
+        assert!(wait + load.own.wire <= window, "frame {q} ends after its window");
         responses.push(load.response(q, wait));
     }
     Some(responses)

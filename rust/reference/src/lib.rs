@@ -17,7 +17,5 @@ pub use desk::{Desk, Open, Reply};
 pub use findings::{findings, FINDINGS_LIMIT};
 pub use mode::Mode;
 pub use plan::{read, ReadReply};
-pub use records::{
-    wire_time, Load, Port, Run, Slot, Source, Stair, Stream, HORIZON, MOST_SLOTS, MOST_STREAMS,
-};
+pub use records::{wire_time, Load, Port, Run, Slot, Source, Stair, Stream, HORIZON, MOST_SLOTS, MOST_STREAMS};
 pub use refusal::Refusal;

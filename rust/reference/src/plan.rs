@@ -9,9 +9,7 @@ use crate::refusal::Refusal;
 pub type ReadReply = (Desk, Result<(), (Refusal, usize)>);
 
 fn big_endian(octets: &[u8]) -> u64 {
-    octets
-        .iter()
-        .fold(0, |number, &octet| number * 256 + u64::from(octet))
+    octets.iter().fold(0, |number, &octet| number * 256 + u64::from(octet))
 }
 
 /// Appends a field: each number with its width in octets.
@@ -24,11 +22,7 @@ pub(crate) fn put(plan: &mut Vec<u8>, tag: u8, numbers: &[(u64, usize)]) {
 }
 
 pub(crate) fn put_port(plan: &mut Vec<u8>, p: &Port) {
-    put(
-        plan,
-        1,
-        &[(p.rate, 1), (p.cycle, 4), (p.guard, 4), (p.header, 4)],
-    );
+    put(plan, 1, &[(p.rate, 1), (p.cycle, 4), (p.guard, 4), (p.header, 4)]);
 }
 
 pub(crate) fn put_slot(plan: &mut Vec<u8>, slot: &Slot) {
@@ -36,14 +30,7 @@ pub(crate) fn put_slot(plan: &mut Vec<u8>, slot: &Slot) {
 }
 
 pub(crate) fn put_stream(plan: &mut Vec<u8>, s: &Stream) {
-    let numbers = [
-        (s.id, 2),
-        (s.priority, 1),
-        (s.octets, 2),
-        (s.period, 4),
-        (s.jitter, 4),
-        (s.deadline, 4),
-    ];
+    let numbers = [(s.id, 2), (s.priority, 1), (s.octets, 2), (s.period, 4), (s.jitter, 4), (s.deadline, 4)];
     put(plan, 3, &numbers);
 }
 
@@ -86,13 +73,7 @@ fn edit(mode: Mode, desk: Desk, tag: u8, value: &[u8]) -> Reply<()> {
             guard: number(5, 4),
             header: number(9, 4),
         }),
-        2 => desk.add_slot(
-            mode,
-            Slot {
-                start: number(0, 4),
-                end: number(4, 4),
-            },
-        ),
+        2 => desk.add_slot(mode, Slot { start: number(0, 4), end: number(4, 4) }),
         _ => desk.add_stream(Stream {
             id: number(0, 2),
             priority: number(2, 1),

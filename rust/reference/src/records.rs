@@ -100,11 +100,7 @@ pub struct Source {
 
 impl Source {
     fn of(port: &Port, stream: &Stream) -> Source {
-        Source {
-            wire: wire_time(port.rate, stream.octets),
-            period: stream.period,
-            jitter: stream.jitter,
-        }
+        Source { wire: wire_time(port.rate, stream.octets), period: stream.period, jitter: stream.jitter }
     }
 
     /// N(x): the most frames in a closed stretch of x ns.

@@ -13,16 +13,9 @@ fn main() -> io::Result<()> {
     for sample in samples::all() {
         let text = findings(Mode::Fast, &sample.plan);
         if let Some(expected) = sample.expected {
-            assert_eq!(
-                text, expected,
-                "{}: worked out by hand otherwise",
-                sample.name
-            );
+            assert_eq!(text, expected, "{}: worked out by hand otherwise", sample.name);
         }
-        fs::write(
-            directory.join(format!("{}.plan", sample.name)),
-            &sample.plan,
-        )?;
+        fs::write(directory.join(format!("{}.plan", sample.name)), &sample.plan)?;
         fs::write(directory.join(format!("{}.txt", sample.name)), text)?;
     }
     Ok(())

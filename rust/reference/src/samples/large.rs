@@ -9,15 +9,7 @@ const CYCLES: [u64; 5] = [100_000_000, 10_000_000, 1_000_000, 400_000, 100_000];
 /// The gaps between slots, in turn: touching slots, touching, overlapping and nearly touching stretches, and apart.
 fn gap(k: u64, unit: u64) -> u64 {
     let joining = 3 * unit;
-    let gaps = [
-        0,
-        joining,
-        joining - 1,
-        joining + 1,
-        25 * unit + 13,
-        37 * unit + 5,
-        61 * unit + 1,
-    ];
+    let gaps = [0, joining, joining - 1, joining + 1, 25 * unit + 13, 37 * unit + 5, 61 * unit + 1];
     gaps[(k % 7) as usize]
 }
 
@@ -49,11 +41,7 @@ fn stream(rate: u64, k: u64, cycle: u64) -> Stream {
     if modest.priority > 0 {
         return modest;
     }
-    Stream {
-        octets: 1_522,
-        period: wire_time(rate, 1_522).max(10_000),
-        ..modest
-    }
+    Stream { octets: 1_522, period: wire_time(rate, 1_522).max(10_000), ..modest }
 }
 
 fn plan(rate: u64) -> Bytes {
@@ -73,18 +61,19 @@ fn plan(rate: u64) -> Bytes {
 }
 
 /// As many stairs as 32 runs can have: gaps and lengths swell and shrink together around the circle, so that of two
-/// stretches over as many runs the longer one always has the larger total. The turn keeps all of them distinct.
+/// stretches over as many runs the longer one always has the larger total. The turn keeps all of them distinct. The
+/// nearest and the furthest run of each row share a stair, so these are 32 x 30 + 2.
 fn most_stairs() -> Bytes {
     let swell = |k: f64| (std::f64::consts::TAU * (k + 0.13) / 32.0).cos();
     let mut plan = Bytes::empty().port(2, 100_000_000, 1, 0);
     let mut start = 0.0;
     for k in 0..32 {
         let k = f64::from(k);
-        let length = 1_500_000.0 + 400_000.0 * swell(k - 0.5);
+        let length = 1_500_000.0 + 40_000.0 * swell(k - 0.5);
         plan = plan.slot(start as u64 + 1, (start + length) as u64);
-        start += 3_125_000.0 + 1_000_000.0 * swell(k);
+        start += 3_125_000.0 + 100_000.0 * swell(k);
     }
-    plan
+    (0..4).fold(plan, |plan, k| plan.stream(stream(2, 8 * k + 1, 40_000_000)))
 }
 
 pub fn samples() -> Vec<Sample> {

@@ -7,11 +7,7 @@ use crate::records::Stream;
 fn longest() -> Bytes {
     let port = Bytes::empty().port(4, 100_000, 100, 10);
     let slots = (0..32).fold(port, |plan, k| plan.slot(k * 3_000, k * 3_000 + 50 + k));
-    let stream = |id| Stream {
-        priority: id % 8,
-        octets: 64 + id,
-        ..plain(id)
-    };
+    let stream = |id| Stream { priority: id % 8, octets: 64 + id, ..plain(id) };
     (0..64).fold(slots, |plan, id| plan.stream(stream(id)))
 }
 
@@ -34,29 +30,11 @@ fn of_length(length: usize) -> Vec<Sample> {
     let rows = [
         ("stream-65", longest(), &stream[..], 7, 1_648),
         ("slot-33", slots, &slot, 7, 368),
-        (
-            "slot-33-behind-the-longest-plan",
-            longest(),
-            &slot,
-            7,
-            1_648,
-        ),
+        ("slot-33-behind-the-longest-plan", longest(), &slot, 7, 1_648),
         ("port-again", longest(), &again, 4, 1_648),
-        (
-            "garbage-behind-the-longest-plan",
-            longest(),
-            &[0xA5, 0x5A, 0xFF],
-            2,
-            1_648,
-        ),
+        ("garbage-behind-the-longest-plan", longest(), &[0xA5, 0x5A, 0xFF], 2, 1_648),
         ("zeros-behind-the-longest-plan", longest(), &[0], 2, 1_648),
-        (
-            "long-field-behind-the-longest-plan",
-            longest(),
-            &[3, 0x0F, 0xFF],
-            3,
-            1_648,
-        ),
+        ("long-field-behind-the-longest-plan", longest(), &[3, 0x0F, 0xFF], 3, 1_648),
         ("same-stream-again", port, &stream, 8, 36),
         ("zeros", Bytes::empty(), &[0], 2, 0),
     ];
@@ -68,18 +46,10 @@ fn of_length(length: usize) -> Vec<Sample> {
 }
 
 pub fn samples() -> Vec<Sample> {
-    let mut samples: Vec<Sample> = [4_095, 4_096, 4_097, 10_000]
-        .into_iter()
-        .flat_map(of_length)
-        .collect();
+    let mut samples: Vec<Sample> = [4_095, 4_096, 4_097, 10_000].into_iter().flat_map(of_length).collect();
     samples.push(Sample::new("length-1648-longest-plan", longest()));
     let one_more = longest().octets(&[3]);
-    samples.push(Sample::refused(
-        "length-1649-one-octet-more",
-        one_more,
-        1,
-        1_648,
-    ));
+    samples.push(Sample::refused("length-1649-one-octet-more", one_more, 1, 1_648));
     let cut = filled(longest(), &[3, 0, 17], 1_667);
     samples.push(Sample::refused("length-1667-stream-65-cut", cut, 1, 1_648));
     let whole = filled(longest(), &[3, 0, 17, 0, 200, 1, 1, 0, 0, 1, 0, 0], 1_668);

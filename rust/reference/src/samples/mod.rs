@@ -21,19 +21,12 @@ pub struct Sample {
 
 impl Sample {
     fn new(name: &str, plan: Bytes) -> Sample {
-        Sample {
-            name: name.to_string(),
-            plan: plan.0,
-            expected: None,
-        }
+        Sample { name: name.to_string(), plan: plan.0, expected: None }
     }
 
     fn worked(name: &str, plan: Bytes, lines: &[&str]) -> Sample {
         let expected = lines.iter().map(|line| format!("{line}\n")).collect();
-        Sample {
-            expected: Some(expected),
-            ..Sample::new(name, plan)
-        }
+        Sample { expected: Some(expected), ..Sample::new(name, plan) }
     }
 
     fn refused(name: &str, plan: Bytes, number: u64, place: usize) -> Sample {
@@ -51,12 +44,7 @@ impl Bytes {
     }
 
     fn port(mut self, rate: u64, cycle: u64, guard: u64, header: u64) -> Bytes {
-        let port = Port {
-            rate,
-            cycle,
-            guard,
-            header,
-        };
+        let port = Port { rate, cycle, guard, header };
         put_port(&mut self.0, &port);
         self
     }
@@ -79,14 +67,7 @@ impl Bytes {
 
 /// A stream of middling numbers, to be changed in one or two of them.
 fn plain(id: u64) -> Stream {
-    Stream {
-        id,
-        priority: 3,
-        octets: 64,
-        period: 1_000_000,
-        jitter: 0,
-        deadline: 1_000_000,
-    }
+    Stream { id, priority: 3, octets: 64, period: 1_000_000, jitter: 0, deadline: 1_000_000 }
 }
 
 /// All samples, each under its own name.

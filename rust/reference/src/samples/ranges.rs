@@ -30,24 +30,9 @@ fn ports() -> Vec<Sample> {
         numbers.iter().map(one).collect::<Vec<_>>()
     };
     let rates = [(0, false), (1, true), (5, true), (6, false), (255, false)];
-    let cycles = [
-        (999, false),
-        (1_000, true),
-        (100_000_000, true),
-        (100_000_001, false),
-    ];
-    let guards = [
-        (0, false),
-        (1, true),
-        (10_000_000, true),
-        (10_000_001, false),
-    ];
-    let headers = [
-        (0, true),
-        (10_000_000, true),
-        (10_000_001, false),
-        (OVER_ALL, false),
-    ];
+    let cycles = [(999, false), (1_000, true), (100_000_000, true), (100_000_001, false)];
+    let guards = [(0, false), (1, true), (10_000_000, true), (10_000_001, false)];
+    let headers = [(0, true), (10_000_000, true), (10_000_001, false), (OVER_ALL, false)];
     let rows = [
         row("rate", &rate, &rates),
         row("cycle", &cycle, &cycles),
@@ -89,48 +74,17 @@ fn stream_row(what: &str, make: impl Fn(u64) -> Stream, numbers: &[(u64, bool)])
 }
 
 fn streams() -> Vec<Sample> {
-    let priority = |priority| Stream {
-        priority,
-        ..plain(1)
-    };
+    let priority = |priority| Stream { priority, ..plain(1) };
     let octets = |octets| Stream { octets, ..plain(1) };
     let period = |period| Stream { period, ..plain(1) };
     let jitter = |jitter| Stream { jitter, ..plain(1) };
-    let deadline = |deadline| Stream {
-        deadline,
-        ..plain(1)
-    };
-    let many_frames = |jitter| Stream {
-        jitter,
-        period: 10_000,
-        ..plain(1)
-    };
+    let deadline = |deadline| Stream { deadline, ..plain(1) };
+    let many_frames = |jitter| Stream { jitter, period: 10_000, ..plain(1) };
     let priorities = [(0, true), (7, true), (8, false), (255, false)];
-    let lengths = [
-        (63, false),
-        (64, true),
-        (1_522, true),
-        (1_523, false),
-        (65_535, false),
-    ];
-    let periods = [
-        (9_999, false),
-        (10_000, true),
-        (100_000_000, true),
-        (100_000_001, false),
-    ];
-    let jitters = [
-        (0, true),
-        (100_000_000, true),
-        (100_000_001, false),
-        (OVER_ALL, false),
-    ];
-    let deadlines = [
-        (0, false),
-        (1, true),
-        (100_000_000, true),
-        (100_000_001, false),
-    ];
+    let lengths = [(63, false), (64, true), (1_522, true), (1_523, false), (65_535, false)];
+    let periods = [(9_999, false), (10_000, true), (100_000_000, true), (100_000_001, false)];
+    let jitters = [(0, true), (100_000_000, true), (100_000_001, false), (OVER_ALL, false)];
+    let deadlines = [(0, false), (1, true), (100_000_000, true), (100_000_001, false)];
     let rows = [
         stream_row("id", plain, &[(0, true), (65_535, true)]),
         stream_row("priority", priority, &priorities),

@@ -21,11 +21,7 @@ fn fields() -> Vec<Sample> {
         after_f("one-octet-left-of-unknown-tag", &[9], 1),
         after_f("two-octets-left-of-wrong-length", &[2, 9], 1),
         after_f("slot-without-value", &[2, 0, 8], 1),
-        after_f(
-            "slot-short-of-one-octet",
-            &[2, 0, 8, 0, 0, 0, 0, 0, 0, 0],
-            1,
-        ),
+        after_f("slot-short-of-one-octet", &[2, 0, 8, 0, 0, 0, 0, 0, 0, 0], 1),
         after_f("second-port-cut", &[1, 0, 13, 2, 0], 1),
         after_f("stream-cut", &[3, 0, 17, 0, 1, 9], 1),
         after_f("tag-0", &long([0, 0, 8]), 2),
@@ -48,10 +44,7 @@ fn cuts() -> Vec<Sample> {
     let cut = |length: usize| {
         let plan = Bytes(whole[..length].to_vec());
         if fields.contains(&length) {
-            return Sample::new(
-                &format!("plan-f-first-{length:02}-octets-whole-fields"),
-                plan,
-            );
+            return Sample::new(&format!("plan-f-first-{length:02}-octets-whole-fields"), plan);
         }
         let place = fields.into_iter().filter(|&field| field < length).max();
         let name = format!("refusal-01-plan-f-first-{length:02}-octets");
@@ -73,64 +66,23 @@ fn states() -> Vec<Sample> {
         Sample::refused("refusal-04-two-ports-then-unknown-tag", twice, 4, 16),
         Sample::refused("refusal-04-slot-first", slot, 4, 0),
         Sample::refused("refusal-04-slot-first-of-bad-numbers", bad_slot, 4, 0),
-        Sample::refused(
-            "refusal-04-stream-first",
-            Bytes::empty().stream(plain(1)),
-            4,
-            0,
-        ),
-        Sample::refused(
-            "refusal-02-unknown-tag-first",
-            Bytes::empty().octets(&[4, 0, 0]),
-            2,
-            0,
-        ),
-        Sample::refused(
-            "refusal-03-port-length-first",
-            Bytes::empty().octets(&[1, 0, 14]),
-            3,
-            0,
-        ),
-        Sample::refused(
-            "refusal-01-slot-first-cut",
-            Bytes::empty().octets(&[2, 0, 8, 0]),
-            1,
-            0,
-        ),
+        Sample::refused("refusal-04-stream-first", Bytes::empty().stream(plain(1)), 4, 0),
+        Sample::refused("refusal-02-unknown-tag-first", Bytes::empty().octets(&[4, 0, 0]), 2, 0),
+        Sample::refused("refusal-03-port-length-first", Bytes::empty().octets(&[1, 0, 14]), 3, 0),
+        Sample::refused("refusal-01-slot-first-cut", Bytes::empty().octets(&[2, 0, 8, 0]), 1, 0),
     ]
 }
 
 /// 5 and 8 behind plan F, and the first of several bad fields.
 fn numbers() -> Vec<Sample> {
-    let priority = Stream {
-        priority: 8,
-        ..plain(9)
-    };
-    let held_and_bad = Stream {
-        octets: 63,
-        ..plain(1)
-    };
+    let priority = Stream { priority: 8, ..plain(9) };
+    let held_and_bad = Stream { octets: 63, ..plain(1) };
     let first = plan_f().stream(plain(2)).slot(5, 5).octets(&[9]);
     let second = plan_f().slot(5, 5).stream(plain(2));
     vec![
-        Sample::refused(
-            "refusal-05-slot-behind-f",
-            plan_f().slot(90_000, 100_001),
-            5,
-            END_F,
-        ),
-        Sample::refused(
-            "refusal-05-stream-behind-f",
-            plan_f().stream(priority),
-            5,
-            END_F,
-        ),
-        Sample::refused(
-            "refusal-05-before-08",
-            plan_f().stream(held_and_bad),
-            5,
-            END_F,
-        ),
+        Sample::refused("refusal-05-slot-behind-f", plan_f().slot(90_000, 100_001), 5, END_F),
+        Sample::refused("refusal-05-stream-behind-f", plan_f().stream(priority), 5, END_F),
+        Sample::refused("refusal-05-before-08", plan_f().stream(held_and_bad), 5, END_F),
         Sample::refused("refusal-08-id-held", plan_f().stream(plain(1)), 8, END_F),
         Sample::refused("refusal-08-first-of-three-bad-fields", first, 8, END_F),
         Sample::refused("refusal-05-first-of-two-bad-fields", second, 5, END_F),
@@ -175,13 +127,8 @@ fn full_of_streams() -> Bytes {
 /// 7 comes after 5, and before 6, 8 and 10.
 fn full() -> Vec<Sample> {
     let (slots, streams) = (16 + 32 * 11, 16 + 64 * 20);
-    let slot = |name, start, end, number| {
-        Sample::refused(name, full_of_slots().slot(start, end), number, slots)
-    };
-    let bad = Stream {
-        deadline: 0,
-        ..plain(99)
-    };
+    let slot = |name, start, end, number| Sample::refused(name, full_of_slots().slot(start, end), number, slots);
+    let bad = Stream { deadline: 0, ..plain(99) };
     let crossed = full_of_slots().stream(plain(1)).slot(9_000, 9_001);
     let other = full_of_streams().slot(10, 20).stream(plain(64));
     vec![
@@ -189,24 +136,9 @@ fn full() -> Vec<Sample> {
         slot("refusal-07-slot-33-overlaps", 0, 5, 7),
         slot("refusal-07-slot-33-would-fill-the-cycle", 315, 10_000, 7),
         slot("refusal-05-slot-33-of-bad-numbers", 9_000, 9_000, 5),
-        Sample::refused(
-            "refusal-07-stream-65",
-            full_of_streams().stream(plain(64)),
-            7,
-            streams,
-        ),
-        Sample::refused(
-            "refusal-07-stream-65-held",
-            full_of_streams().stream(plain(0)),
-            7,
-            streams,
-        ),
-        Sample::refused(
-            "refusal-05-stream-65-of-bad-numbers",
-            full_of_streams().stream(bad),
-            5,
-            streams,
-        ),
+        Sample::refused("refusal-07-stream-65", full_of_streams().stream(plain(64)), 7, streams),
+        Sample::refused("refusal-07-stream-65-held", full_of_streams().stream(plain(0)), 7, streams),
+        Sample::refused("refusal-05-stream-65-of-bad-numbers", full_of_streams().stream(bad), 5, streams),
         Sample::refused("refusal-07-slot-33-behind-a-stream", crossed, 7, slots + 20),
         Sample::refused("refusal-07-stream-65-behind-a-slot", other, 7, streams + 11),
         Sample::new("slots-32-and-no-streams", full_of_slots()),
@@ -227,11 +159,7 @@ fn no_free_cell() -> Vec<Sample> {
         ("whole-cycle", small_port().slot(0, 1_000), 16),
         ("last-gap-filled", two.clone().slot(250, 850), 47),
         ("touching-slot-fills", two.clone().slot(100, 850), 47),
-        (
-            "third-slot-fills-with-its-guard",
-            three.clone().slot(650, 850),
-            38,
-        ),
+        ("third-slot-fills-with-its-guard", three.clone().slot(650, 850), 38),
         ("guard-of-many-cycles", huge_guard.slot(10, 11), 16),
         ("header-of-many-cycles", huge_header.slot(10, 11), 16),
         ("guard-and-one-cell-fill", guard_fills.slot(10, 11), 16),
@@ -242,29 +170,13 @@ fn no_free_cell() -> Vec<Sample> {
     };
     let mut samples: Vec<Sample> = cases.map(refused).into_iter().collect();
     let one_free = ["blocked 999 of 1000 in 1", "stair 0 999"];
-    samples.push(Sample::worked(
-        "one-free-cell-under-a-long-guard",
-        guard_998,
-        &one_free,
-    ));
+    samples.push(Sample::worked("one-free-cell-under-a-long-guard", guard_998, &one_free));
     let three = three.slot(650, 849);
-    samples.push(Sample::worked(
-        "one-free-cell-of-three-slots",
-        three,
-        &one_free,
-    ));
+    samples.push(Sample::worked("one-free-cell-of-three-slots", three, &one_free));
     samples
 }
 
 pub fn samples() -> Vec<Sample> {
-    let groups = [
-        fields(),
-        cuts(),
-        states(),
-        numbers(),
-        overlaps(),
-        full(),
-        no_free_cell(),
-    ];
+    let groups = [fields(), cuts(), states(), numbers(), overlaps(), full(), no_free_cell()];
     groups.into_iter().flatten().collect()
 }

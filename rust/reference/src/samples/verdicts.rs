@@ -14,24 +14,10 @@ fn port() -> Bytes {
 /// Two of equal priority count each other whole; a lower one adds its frame once; a higher one goes first.
 fn priorities() -> Sample {
     let plan = port()
-        .stream(Stream {
-            octets: 117,
-            ..plain(1)
-        })
-        .stream(Stream {
-            octets: 242,
-            ..plain(2)
-        })
-        .stream(Stream {
-            octets: 1_522,
-            priority: 2,
-            ..plain(3)
-        })
-        .stream(Stream {
-            octets: 64,
-            priority: 7,
-            ..plain(4)
-        });
+        .stream(Stream { octets: 117, ..plain(1) })
+        .stream(Stream { octets: 242, ..plain(2) })
+        .stream(Stream { octets: 1_522, priority: 2, ..plain(3) })
+        .stream(Stream { octets: 64, priority: 7, ..plain(4) });
     let lines = [
         NO_SLOTS,
         "stream 1 bound 158160 of 1000000",
@@ -45,23 +31,9 @@ fn priorities() -> Sample {
 /// At a wait of 30,000 the next frame of stream 1 arrives just then, and counts.
 fn closed_stretch() -> Sample {
     let plan = port()
-        .stream(Stream {
-            octets: 117,
-            period: 30_000,
-            priority: 7,
-            ..plain(1)
-        })
-        .stream(Stream {
-            octets: 117,
-            priority: 0,
-            ..plain(2)
-        })
-        .stream(Stream {
-            octets: 242,
-            period: 60_000,
-            priority: 6,
-            ..plain(3)
-        });
+        .stream(Stream { octets: 117, period: 30_000, priority: 7, ..plain(1) })
+        .stream(Stream { octets: 117, priority: 0, ..plain(2) })
+        .stream(Stream { octets: 242, period: 60_000, priority: 6, ..plain(3) });
     let lines = [
         NO_SLOTS,
         "stream 1 bound 30000 of 1000000",
@@ -73,13 +45,7 @@ fn closed_stretch() -> Sample {
 
 /// A window of exactly the horizon: 10,000 frames of 10,000 ns, the largest response in the middle.
 fn at_the_horizon(jitter: u64, deadline: u64) -> Bytes {
-    port().stream(Stream {
-        octets: 117,
-        period: 20_000,
-        jitter,
-        deadline,
-        ..plain(1)
-    })
+    port().stream(Stream { octets: 117, period: 20_000, jitter, deadline, ..plain(1) })
 }
 
 fn horizon() -> Vec<Sample> {
@@ -105,20 +71,9 @@ fn horizon() -> Vec<Sample> {
 
 /// A wire that is busy all the time never closes a window, and one frame less does.
 fn full_load() -> Vec<Sample> {
-    let low = Stream {
-        priority: 0,
-        ..plain(2)
-    };
-    let full = Stream {
-        octets: 117,
-        period: 10_000,
-        priority: 7,
-        ..plain(1)
-    };
-    let nearly = Stream {
-        period: 10_001,
-        ..full
-    };
+    let low = Stream { priority: 0, ..plain(2) };
+    let full = Stream { octets: 117, period: 10_000, priority: 7, ..plain(1) };
+    let nearly = Stream { period: 10_001, ..full };
     vec![
         Sample::worked(
             "full-load-endless",
@@ -128,24 +83,13 @@ fn full_load() -> Vec<Sample> {
         Sample::new("nearly-full-load", port().stream(nearly).stream(low)),
         Sample::worked(
             "only-the-lower-one-endless",
-            port()
-                .stream(Stream {
-                    octets: 117,
-                    period: 20_000,
-                    priority: 7,
-                    ..plain(1)
-                })
-                .stream(Stream {
-                    octets: 117,
-                    period: 20_000,
-                    priority: 0,
-                    ..plain(2)
-                }),
-            &[
-                NO_SLOTS,
-                "stream 1 bound 20000 of 1000000",
-                "stream 2 endless",
-            ],
+            port().stream(Stream { octets: 117, period: 20_000, priority: 7, ..plain(1) }).stream(Stream {
+                octets: 117,
+                period: 20_000,
+                priority: 0,
+                ..plain(2)
+            }),
+            &[NO_SLOTS, "stream 1 bound 20000 of 1000000", "stream 2 endless"],
         ),
     ]
 }
@@ -153,11 +97,7 @@ fn full_load() -> Vec<Sample> {
 /// One free cell in each 1,000: 58 ns of wire take the last cells of 59 cycles.
 fn one_free_cell() -> Sample {
     let port = Bytes::empty().port(5, 1_000, 100, 50).slot(0, 849);
-    let lines = [
-        "blocked 999 of 1000 in 1",
-        "stair 0 999",
-        "stream 1 bound 58999 of 1000000",
-    ];
+    let lines = ["blocked 999 of 1000 in 1", "stair 0 999", "stream 1 bound 58999 of 1000000"];
     Sample::worked("one-free-cell-and-a-stream", port.stream(plain(1)), &lines)
 }
 
@@ -181,10 +121,7 @@ fn orders() -> Vec<Sample> {
 
 /// Runs of equal lengths at equal distances: equal pairs are one stair.
 fn equal_runs() -> Vec<Sample> {
-    let even = Bytes::empty()
-        .port(3, 1_000, 10, 0)
-        .slot(110, 150)
-        .slot(610, 650);
+    let even = Bytes::empty().port(3, 1_000, 10, 0).slot(110, 150).slot(610, 650);
     let stairs = ["blocked 100 of 1000 in 2", "stair 0 50", "stair 500 100"];
     let apart = small_port().slot(100, 200).slot(351, 400);
     vec![
