@@ -5,6 +5,7 @@
 
 pub mod brute;
 mod desk;
+mod dice;
 pub mod fast;
 mod findings;
 mod mode;
@@ -14,6 +15,7 @@ mod refusal;
 pub mod samples;
 
 pub use desk::{Desk, Open, Reply};
+pub use dice::Dice;
 pub use findings::{findings, FINDINGS_LIMIT};
 pub use mode::Mode;
 pub use plan::{read, ReadReply};

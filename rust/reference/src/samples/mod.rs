@@ -2,6 +2,7 @@
 
 mod large;
 mod lengths;
+mod mixed;
 mod paper;
 mod ranges;
 mod refusals;
@@ -79,6 +80,7 @@ pub fn all() -> Vec<Sample> {
         lengths::samples(),
         verdicts::samples(),
         large::samples(),
+        mixed::samples(),
     ];
     groups.into_iter().flatten().collect()
 }
