@@ -1,4 +1,4 @@
-//! Document 01 in plain Rust, written from the paper alone, to try the proved core against.
+//! Document 01 in plain Rust, written from the paper and not from the proved core, to try that core against.
 //!
 //! Every figure can be had in two ways ([`Mode`]): [`brute`] follows the paper's words cell by cell and number by
 //! number, [`fast`] answers large plans. Nothing here is proved; it is meant to be read beside the paper.

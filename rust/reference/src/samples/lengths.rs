@@ -52,7 +52,7 @@ pub fn samples() -> Vec<Sample> {
     samples.push(Sample::refused("length-1649-one-octet-more", one_more, 1, 1_648));
     let cut = filled(longest(), &[3, 0, 17], 1_667);
     samples.push(Sample::refused("length-1667-stream-65-cut", cut, 1, 1_648));
-    let whole = filled(longest(), &[3, 0, 17, 0, 200, 1, 1, 0, 0, 1, 0, 0], 1_668);
-    samples.push(Sample::new("length-1668-stream-65-whole", whole));
+    let whole = longest().stream(plain(200));
+    samples.push(Sample::refused("length-1668-stream-65-whole", whole, 7, 1_648));
     samples
 }
