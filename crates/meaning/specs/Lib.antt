@@ -11,3 +11,4 @@ pub mod Bytes
 pub mod Promises
 pub mod Figures
 pub mod Plans
+pub mod Findings
