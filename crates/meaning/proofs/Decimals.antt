@@ -17,11 +17,11 @@ use Rattle.meaning.specs.Findings.{digitsWithin, decimal}
 module _ (w n : ℕ) where
   within-small : n < 10 → digitsWithin (suc w) n ≡ (48 + n) ∷ []
   unfolding digitsWithin
-  within-small h = rw (lt-ltb n 10 h)
+  within-small h = rw (digitsWithin, lt-ltb n 10 h)
 
   within-more : 10 ≤ n → digitsWithin (suc w) n ≡ digitsWithin w (n / 10) ++ ((48 + n % 10) ∷ [])
   unfolding digitsWithin
-  within-more h = rw (le-ltb n 10 h)
+  within-more h = rw (digitsWithin, le-ltb n 10 h)
 
 -- places to spare change nothing
 within-same : (w v n : ℕ) → n < w → n < v → digitsWithin w n ≡ digitsWithin v n

@@ -59,17 +59,17 @@ quick-is g ss rs e t =
 
 -- ---- F's runs, stairs and V
 
-abbrev gateF : Gate
+abbrev pub gateF : Gate
 gateF = record { cycle = 100_000; guard = 1_000; header = 500 }
 
 abbrev runsF : List Run
 runsF = run 9_000 5_500 ∷ run 29_000 4_000 ∷ run 59_000 10_000 ∷ []
 
-are-runsF : runs gateF slotsF ≡ runsF
+pub are-runsF : runs gateF slotsF ≡ runsF
 unfolding chainRuns chainFrom runAt runOf broken lastEnd hangEnd
 are-runsF = sym (chain-runs gateF slotsF (omega arith))
 
-are-stairsF : stairs gateF slotsF ≡ stair 0 10_000 ∷ stair 30_000 14_000 ∷ stair 50_000 19_500 ∷ []
+pub are-stairsF : stairs gateF slotsF ≡ stair 0 10_000 ∷ stair 30_000 14_000 ∷ stair 50_000 19_500 ∷ []
 unfolding stairs stairsOf pairs pairsFrom pairsMeeting covers same uncovered put keep every
 are-stairsF = ap (λ (rs : List Run). stairsOf (pairs 100_000 rs)) are-runsF
 
@@ -218,7 +218,7 @@ quickF-grows = rw VF at (slots-grow gateF slotsF)
 long : (i : Stream) → 0 < i .period → (j : Stream) → Mem j (i ∷ []) → 0 < j .period
 long i h j m = in-cons m (λ e. subst (λ (k : Stream). 0 < k .period) (sym e) h) (λ k. mem-none k)
 
-boundF₁ : boundOf portF slotsF (streamF₁ ∷ streamF₂ ∷ []) streamF₁ ≡ some 44_000
+pub boundF₁ : boundOf portF slotsF (streamF₁ ∷ streamF₂ ∷ []) streamF₁ ≡ some 44_000
 unfolding
     boundOf gateOf others ahead keep lowerWire largest busyLoad waitLoad load total mostIn earliest wireTime extraOctets
     tenOctets iter quick met allLen horizon
@@ -227,7 +227,7 @@ boundF₁ =
     (bound-single 2 quickF 20_000 (streamF₂ ∷ []) streamF₁ (long streamF₂ (lit< tt)) quickF-grows (lit< tt) 8 44_000
     refl (lit≤ tt) (lit≤ tt) refl 8 34_000 refl (lit≤ tt))
 
-boundF₂ : boundOf portF slotsF (streamF₁ ∷ streamF₂ ∷ []) streamF₂ ≡ some 44_000
+pub boundF₂ : boundOf portF slotsF (streamF₁ ∷ streamF₂ ∷ []) streamF₂ ≡ some 44_000
 unfolding
     boundOf gateOf others ahead keep lowerWire largest busyLoad waitLoad load total mostIn earliest wireTime extraOctets
     tenOctets iter quick met allLen horizon

@@ -1,5 +1,5 @@
 -- Document 01, "Findings program": what `findings` prints of a plan, octet by octet.
-use mathlib.Core.Bool.{cond}
+use mathlib.Core.Bool.{true, false, cond}
 use mathlib.Core.List.{List, [], _∷_, _++_}
 use mathlib.Core.Option.{Option, none, some}
 use Prim.Native.Nat.{ℕ, zero, suc, _+_, _/_, _%_}
@@ -31,7 +31,8 @@ octetsIn (c then s) = code c ∷ octetsIn s
 -- the decimal digits of n, the highest first, of at most w digits: 48 is the digit 0
 unfoldable pub digitsWithin : ℕ → ℕ → List ℕ
 digitsWithin zero n = []
-digitsWithin (suc w) n = cond (ltb n 10) ((48 + n) ∷ []) (digitsWithin w (n / 10) ++ ((48 + n % 10) ∷ []))
+digitsWithin (suc w) n =
+    elim (ltb n 10) [ true ↦ (48 + n) ∷ [] | false ↦ digitsWithin w (n / 10) ++ ((48 + n % 10) ∷ []) ]
 
 -- no number has more digits than one more than itself
 unfoldable pub decimal : ℕ → List ℕ
