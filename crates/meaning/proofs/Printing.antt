@@ -16,7 +16,6 @@ use Rattle.laws.proofs.Lists.{any-false}
 use Rattle.laws.proofs.Keeping.{in-cons}
 use Rattle.laws.proofs.Lists.{mem-none}
 use Rattle.meaning.specs.declared.Port.{Port}
-use Rattle.meaning.specs.declared.Gate.{Gate}
 use Rattle.meaning.specs.declared.Slot.{Slot}
 use Rattle.meaning.specs.declared.Stream.{Stream}
 use Rattle.meaning.specs.declared.Run.{Run}
@@ -82,15 +81,15 @@ plain-told word n h =
     plain-append (octetsIn word) (decimal n) (plain-word word h)
     (λ x m e. let d = decimal-digits n x m in omega arith)
 
-pub blocked-ends : (g : Gate) (ss : List Slot) → OneNewline (blockedLine g ss)
+pub blocked-ends : (all cycle n : ℕ) → OneNewline (blockedLine all cycle n)
 unfolding blockedLine octetsIn any
-blocked-ends g ss = (
-  told "blocked " (allLen (runs g ss)) ++ told " of " (g .cycle) ++ told " in " (length (runs g ss)),
+blocked-ends all cycle n = (
+  told "blocked " all ++ told " of " cycle ++ told " in " n,
   refl,
-  plain-append (told "blocked " (allLen (runs g ss)) ++ told " of " (g .cycle)) (told " in " (length (runs g ss)))
-      (plain-append (told "blocked " (allLen (runs g ss))) (told " of " (g .cycle))
-      (plain-told "blocked " (allLen (runs g ss)) refl) (plain-told " of " (g .cycle) refl))
-      (plain-told " in " (length (runs g ss)) refl),
+  plain-append (told "blocked " all ++ told " of " cycle) (told " in " n)
+      (plain-append (told "blocked " all) (told " of " cycle) (plain-told "blocked " all refl)
+      (plain-told " of " cycle refl))
+      (plain-told " in " n refl),
 )
 
 pub stair-ends : (x : Stair) → OneNewline (stairLine x)

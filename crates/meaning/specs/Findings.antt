@@ -9,7 +9,6 @@ use lib.ListN.{length}
 use lib.Dec.{ltb}
 use Rattle.laws.specs.Lists.{joined}
 use Rattle.meaning.specs.declared.Port.{Port}
-use Rattle.meaning.specs.declared.Gate.{Gate}
 use Rattle.meaning.specs.declared.Slot.{Slot}
 use Rattle.meaning.specs.declared.Stream.{Stream}
 use Rattle.meaning.specs.declared.Stair.{Stair}
@@ -49,9 +48,8 @@ newline = octetsIn "\n"
 -- ---- lines
 
 -- "blocked 19500 of 100000 in 3": "Line 1: blocked cells, cycle, runs."
-unfoldable pub blockedLine : Gate → List Slot → List ℕ
-blockedLine g ss =
-    told "blocked " (allLen (runs g ss)) ++ told " of " (g .cycle) ++ told " in " (length (runs g ss)) ++ newline
+unfoldable pub blockedLine : ℕ → ℕ → ℕ → List ℕ
+blockedLine all cycle n = told "blocked " all ++ told " of " cycle ++ told " in " n ++ newline
 
 -- "stair 30000 14000": "`stair`: distance, total."
 unfoldable pub stairLine : Stair → List ℕ
@@ -75,7 +73,7 @@ refusedLine number place = told "refused " number ++ told " at " place ++ newlin
 -- of an open desk; its stairs are by rising distance, and its streams by rising id
 unfoldable pub deskLines : Port → List Slot → List Stream → List ℕ
 deskLines p ss js =
-    blockedLine (gateOf p js) ss
+    blockedLine (allLen (runs (gateOf p js) ss)) (p .cycle) (length (runs (gateOf p js) ss))
     ++ joined stairLine (stairs (gateOf p js) ss)
     ++ joined (λ j. streamLine j (boundOf p ss js j)) js
 
