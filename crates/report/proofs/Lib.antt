@@ -1,3 +1,6 @@
 pub mod Parts
 pub mod Digits
 pub mod Words
+pub mod Rows
+pub mod Sizes
+pub mod Whole

@@ -1,6 +1,6 @@
 -- A text written part by part: each part fills the front of what those before it leave of the room.
 -- Assumes nothing.
-use mathlib.Core.Path.{_≡_, refl, sym, ap, _∙_}
+use mathlib.Core.Path.{_≡_, refl, sym, ap, subst, _∙_}
 use mathlib.Core.List.{List, [], _∷_, _++_, append-nil, append-assoc}
 use Prim.Native.Nat.{ℕ, suc, _+_, _-_, _≤_, _<_}
 use native.Mathlib.Numerals.{add-one}
@@ -21,6 +21,10 @@ wrote-next {w} {f} {r} {xs} {ys} {a} {k} p q =
       count = omega (arith, p .count, q .count, length-append w f);
       room = fill-next a k xs ys w f r (sym (p .count)) (p .room) (q .room);
     }
+
+-- the same text by another name
+pub wrote-as : {w v r xs : List ℕ} {a : ℕ} → w ≡ v → Wrote w a r xs → Wrote v a r xs
+wrote-as {w} {v} {r} {xs} {a} e p = subst (λ (l : List ℕ). Wrote l a r xs) e p
 
 -- the room keeps its length where there was room
 pub wrote-length : {w r xs : List ℕ} {a : ℕ} → length w ≤ length r → Wrote w a r xs → length xs ≡ length r
@@ -52,10 +56,11 @@ module _ {A : Type 0} (part : A → List ℕ) where
     pub reached : i ≤ length xs
     pub wrote : Wrote (joined part (take i xs)) at r room
     pub long : length room ≡ length r
+    pub within : at ≤ length room
 
   pub parts-start : (r : List ℕ) (xs : List A) → Parts r xs r 0 0
   unfolding joined
-  parts-start r xs = record { reached = omega arith; wrote = record { count = refl; room = refl }; long = refl }
+  parts-start r xs = record { reached = omega arith; wrote = record { count = refl; room = refl }; long = refl; within = omega arith }
 
   module _ (r : List ℕ) (xs : List A) (fits : length (joined part xs) ≤ length r) (room : List ℕ) (at i : ℕ) (d : A)
       (h : i < length xs) (p : Parts r xs room at i) where
@@ -75,14 +80,15 @@ module _ {A : Type 0} (part : A → List ℕ) where
         → Parts r xs (putMid at (length room - at) room ys) (at + k) (i + 1)
     parts-turn ys k w =
         let now = wrote-next (p .wrote) w in
-        let is = joined-next xs i d h in
-        let all : Wrote (joined part (take (i + 1) xs)) (at + k) r (putMid at (length room - at) room ys) = rw is at now in
+        let all = wrote-as (joined-next xs i d h) now in
+        let same = wrote-length (omega (arith, joined-first xs (i + 1))) all in
         record {
           reached = omega arith;
           wrote = all;
-          long = wrote-length (omega (arith, joined-first xs (i + 1))) all;
+          long = same;
+          within = omega (arith, part-fits, w .count, p .long);
         }
 
   pub parts-end : (r : List ℕ) (xs : List A) (room : List ℕ) (at i : ℕ) → length xs ≤ i → Parts r xs room at i
       → Wrote (joined part xs) at r room
-  parts-end r xs room at i h p = rw (take-all i xs h) at (p .wrote)
+  parts-end r xs room at i h p = wrote-as (ap (joined part) (take-all i xs h)) (p .wrote)

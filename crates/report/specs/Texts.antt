@@ -4,13 +4,15 @@ use mathlib.Core.List.{List, [], _∷_, _++_}
 use Prim.Native.Nat.{ℕ}
 use lib.ListN.{length, drop}
 use Rattle.meaning.specs.declared.Stream.{Stream}
+use Rattle.meaning.specs.Runs.{runs}
+use Rattle.meaning.specs.Interference.{allLen}
 use Rattle.meaning.specs.Refusals.{valuesOf}
 use Rattle.meaning.specs.Calls.{boundOf}
-use Rattle.meaning.specs.Findings.{octetsIn, told, newline, streamLine}
+use Rattle.meaning.specs.Findings.{octetsIn, told, newline, blockedLine, streamLine}
 use Rattle.desk.specs.declared.Desk.{Desk}
 use Rattle.desk.specs.declared.Figure.{Figure}
 use Rattle.desk.specs.declared.Figure.the-variants as Figures
-use Rattle.desk.specs.Desks.{portIn, slotsIn, streamsIn}
+use Rattle.desk.specs.Desks.{portIn, slotsIn, streamsIn, gateIn}
 
 -- the text is in front of the room, the rest keeps its value, and r octets were written
 pub record Wrote (text : List ℕ) (r : ℕ) (before after : List ℕ) : Type 0 where
@@ -29,6 +31,11 @@ figureWords deadline (Figures.Refused why) = refusalWords deadline (valuesOf why
 
 unfoldable pub figureLine : ℕ → ℕ → Figure → List ℕ
 figureLine id deadline figure = told "stream " id ++ figureWords deadline figure ++ newline
+
+-- line 1 of the desk
+unfoldable pub firstIn : Desk → List ℕ
+firstIn d =
+    blockedLine (allLen (runs (gateIn d) (slotsIn d))) (d .cycle) (length (runs (gateIn d) (slotsIn d)))
 
 -- the line of a stream that the desk holds
 unfoldable pub lineIn : Desk → Stream → List ℕ
