@@ -4,3 +4,4 @@ pub mod Words
 pub mod Rows
 pub mod Sizes
 pub mod Whole
+pub mod Reported
