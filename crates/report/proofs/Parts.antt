@@ -10,7 +10,7 @@ use lib.Seq.{take-suc, take-all}
 use borrow.Rule.Slice.PartMut.{midOf, putMid}
 use Rattle.laws.specs.Lists.{joined}
 use Rattle.laws.proofs.Joining.{joined-append}
-use Rattle.plan.proofs.Rooms.{fill-next}
+use Rattle.fields.proofs.Rooms.{fill-next}
 use Rattle.report.specs.Texts.{Wrote}
 
 -- w is written, and f fills the front of what is left

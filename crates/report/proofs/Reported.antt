@@ -15,7 +15,7 @@ use Rattle.meaning.specs.declared.Refusal.the-variants.{Late, OverHorizon}
 use Rattle.meaning.specs.Refusals.{numberOf}
 use Rattle.meaning.specs.Desks.{bare, opened}
 use Rattle.meaning.specs.Desks.{Desk as Plan}
-use Rattle.meaning.specs.Bytes.{Reading, going, stopped, walk, Outcome, read, refusedAt, ended, readPlan}
+use Rattle.meaning.specs.Bytes.{Reading, going, stopped, walk, Outcome, read, refusedAt, ended, readPlan, deskRead}
 use Rattle.meaning.specs.Findings.{octetsIn, decimal, told, newline, refusedLine, printed, findings}
 use Rattle.meaning.proofs.Decimals.{decimal-length}
 use Rattle.meaning.proofs.Edits.{edits-short, edit-opens}
@@ -23,6 +23,9 @@ use Rattle.meaning.proofs.Accepted.{accepted-sound, refused-when}
 use Rattle.desk.specs.declared.Desk.{Desk}
 use Rattle.desk.specs.Desks.{filledDesk, deskOf, held}
 use Rattle.desk.proofs.Held.{held-of}
+use Rattle.plan.specs.declared.ReadAnswer.the-variants as reads
+use Rattle.plan.specs.declared.ReadReply.{ReadReply}
+use Rattle.plan.specs.Reading.{readReply}
 use Rattle.report.specs.Texts.{Wrote}
 use Rattle.report.proofs.Sizes.{lines-short}
 
@@ -93,6 +96,21 @@ never-bare (going place octets bare) e q = let z : refusedAt OutOfTurn 0 ≡ rea
 never-bare (going place octets (opened p ss js)) bare q = let z : read (opened p ss js) ≡ read bare = q in cc
 never-bare (going place octets (opened p ss js)) (opened p′ ss′ js′) q = refl
 never-bare (stopped r place) e q = let z : refusedAt r place ≡ read e = q in cc
+
+-- what the reader's answer tells of the plan
+pub told-read : (o : Outcome) (r : ReadReply) → r ≡ readReply o → r .answer ≡ reads.Read
+    → (e : Plan) × (o ≡ read e) × (r .desk ≡ deskOf e)
+unfolding deskRead
+told-read (read e) r q a = (e, refl, ap (λ (x : ReadReply). x .desk) q)
+told-read (refusedAt why place) r q a =
+    let b = ap (λ (x : ReadReply). x .answer) q in
+    let z : _≡_ {A = ℕ} 0 1 = cc in
+    absurd (omega arith)
+
+pub told-refused : (o : Outcome) (r : ReadReply) (why : Refusal) (place : ℕ) → r ≡ readReply o
+    → r .answer ≡ reads.Refused why place → o ≡ refusedAt why place
+told-refused (read e) r why place q a = let b = ap (λ (x : ReadReply). x .answer) q in cc
+told-refused (refusedAt w p) r why place q a = let b = ap (λ (x : ReadReply). x .answer) q in cc
 
 -- the desk of a plan that was read is open, and its findings are those of the input
 pub read-desk : (input : List ℕ) (e : Plan) (d : Desk) → readPlan input ≡ read e → d ≡ deskOf e

@@ -5,7 +5,7 @@ ghost use Prim.Native.Nat.{_≤_};
 ghost use lib.ListN.{length};
 ghost use Rattle.laws.specs.Lists.{joined};
 ghost use Rattle.meaning.specs.Bytes.{read, refusedAt};
-ghost use Rattle.meaning.specs.Findings.{stairLine, printed};
+ghost use Rattle.meaning.specs.Findings.{stairLine, printed, findings};
 ghost use Rattle.table.specs.Lookup.{stairsIn};
 ghost use Rattle.desk.specs.Desks.{held, Fit, streamsIn};
 ghost use Rattle.report.specs.Texts.{Wrote, firstIn, lineIn};
@@ -21,6 +21,7 @@ use lines::put_stair;
 use lines::put_stream;
 use meaning::Refusal;
 use meaning::Stair;
+use plan::ReadAnswer;
 
 // The lines of the first n stairs, each into the rest of the room.
 fn put_stairs(out: &mut [u8], far: [u32; 993], tot: [u32; 993], n: usize) -> usize
@@ -88,4 +89,18 @@ pub fn put_refused(out: &mut [u8], why: Refusal, place: usize) -> usize
     ensures { λ r. ⌜ Wrote (printed (refusedAt why place)) r (now (out .entry)) (now (out .exit)) ⌝ }
 {
     put_refusal(out, number(why), place)
+}
+
+// The findings of an input.
+pub fn report(input: &[u8], out: &mut [u8]) -> usize
+    requires { ⌜ 32_768 ≤ length (now out) ⌝ }
+    ensures { λ r. ⌜ Wrote (findings (now (input .entry))) r (now (out .entry)) (now (out .exit)) ⌝ }
+{
+    let reply = plan::read(input);
+    let answer = reply.answer;
+    let d = reply.desk;
+    match answer {
+        ReadAnswer::Read => put_findings(out, d),
+        ReadAnswer::Refused { why, place } => put_refused(out, why, place),
+    }
 }
