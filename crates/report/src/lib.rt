@@ -1,8 +1,9 @@
 // The text that `findings` prints (document 01, "Findings program"), made in a caller's room.
 ghost use mathlib.Core.Bool.{true};
 ghost use mathlib.Core.Path.{_≡_};
-ghost use Prim.Native.Nat.{_≤_};
-ghost use lib.ListN.{length};
+ghost use mathlib.Core.List.{List};
+ghost use Prim.Native.Nat.{ℕ, _≤_};
+ghost use lib.ListN.{length, take};
 ghost use Rattle.laws.specs.Lists.{joined};
 ghost use Rattle.meaning.specs.Bytes.{read, refusedAt};
 ghost use Rattle.meaning.specs.Findings.{stairLine, printed, findings};
@@ -103,4 +104,13 @@ pub fn report(input: &[u8], out: &mut [u8]) -> usize
         ReadAnswer::Read => put_findings(out, d),
         ReadAnswer::Refused { why, place } => put_refused(out, why, place),
     }
+}
+
+// The findings of a whole input, from its first 4,096 octets.
+pub fn answer(taken: &[u8], out: &mut [u8]) -> usize
+    requires { ⌜ 32_768 ≤ length (now out) ⌝ }
+    ensures { λ r. ⌜ ((input : List ℕ) → now (taken .entry) ≡ take 4_096 input
+        → Wrote (findings input) r (now (out .entry)) (now (out .exit))) × (r ≤ length (now (out .exit))) ⌝ }
+{
+    report(taken, out)
 }

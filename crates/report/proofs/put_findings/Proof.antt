@@ -10,13 +10,13 @@ put-first-requires : tie.Need-put-first-requires
 put-first-requires c κs = search needs
 
 sub-put-stairs : tie.Need-sub-put-stairs
-sub-put-stairs c = 
+sub-put-stairs c =
     let s = c .before .before .before .before .before .before .before in
     let z = sized (s .args .d) (s .pre .0) (s .pre .1) in
     search needs
 
 part-put-stairs-start : tie.Need-part-put-stairs-start
-part-put-stairs-start c = 
+part-put-stairs-start c =
     let s = c .before .before .before .before .before .before .before in
     let z = sized (s .args .d) (s .pre .0) (s .pre .1) in
     search needs
@@ -25,25 +25,25 @@ part-put-stairs-end : tie.Need-part-put-stairs-end
 part-put-stairs-end c = search needs
 
 put-stairs-requires : tie.Need-put-stairs-requires
-put-stairs-requires c κs = 
+put-stairs-requires c κs =
     let s = c .before .before .before .before .before .before .before .before in
     let z = sized (s .args .d) (s .pre .0) (s .pre .1) in
     (z .few, search needs)
 
 add-at : tie.Need-add-at
-add-at c = 
+add-at c =
     let s = c .before .before .before .before .before .before .before .before .before .before .before in
     let z = sized (s .args .d) (s .pre .0) (s .pre .1) in
     search needs
 
 sub-put-streams : tie.Need-sub-put-streams
-sub-put-streams c = 
+sub-put-streams c =
     let s = c .before .before .before .before .before .before .before .before .before .before .before in
     let z = sized (s .args .d) (s .pre .0) (s .pre .1) in
     search needs
 
 part-put-streams-start : tie.Need-part-put-streams-start
-part-put-streams-start c = 
+part-put-streams-start c =
     let s = c .before .before .before .before .before .before .before .before .before .before .before in
     let z = sized (s .args .d) (s .pre .0) (s .pre .1) in
     search needs
@@ -52,13 +52,13 @@ part-put-streams-end : tie.Need-part-put-streams-end
 part-put-streams-end c = search needs
 
 put-streams-requires : tie.Need-put-streams-requires
-put-streams-requires c κs = 
+put-streams-requires c κs =
     let s = c .before .before .before .before .before .before .before .before .before .before .before .before in
     let z = sized (s .args .d) (s .pre .0) (s .pre .1) in
     (s .pre .0, s .pre .1, search needs)
 
 add-result : tie.Need-add-result
-add-result c = 
+add-result c =
     let s = c .before .before .before .before .before .before .before .before .before .before .before .before .before .before .before in
     let z = sized (s .args .d) (s .pre .0) (s .pre .1) in
     search needs
@@ -67,7 +67,7 @@ same-length : tie.Need-same-length
 same-length c = search needs
 
 returns : tie.Need-returns
-returns c = 
+returns c =
     let third = c .before .before in
     let second = third .before .before .before .before in
     let first = second .before .before .before .before in

@@ -13,7 +13,7 @@ all-blocked-requires : tie.Need-all-blocked-requires
 all-blocked-requires c κs = let s = c .before .before .before .before .before in few-stairs (s .args .t2) (s .pre .0) (s .pre .1)
 
 put-blocked-requires : tie.Need-put-blocked-requires
-put-blocked-requires c κs = 
+put-blocked-requires c κs =
     let s = c .before .before .before .before .before .before .before in
     let runs = c .before .before .before .before .before .runs in
     let all = c .before .all-blocked in
@@ -23,7 +23,7 @@ same-length : tie.Need-same-length
 same-length c = search needs
 
 returns : tie.Need-returns
-returns c = 
+returns c =
     let s = c .before .before .before .before .before .before .before .before .before .before in
     let runs = c .before .before .before .before .before .before .before .before .runs in
     let all = c .before .before .before .before .all-blocked in

@@ -80,10 +80,11 @@ loop-again c =
     let s = h .before .before in
     let a = s .args in
     let lf : length (a .t2) ≡ 993 = search needs in
-    let lt : length (a .t3) ≡ 993 = search needs in
-    (omega arith,
+    let lt : length (a .t3) ≡ 993 = search needs in (
+      omega arith,
       stair-turn (a .t2) (a .t3) (a .n) (omega arith) (omega arith) (a .out .now) (s .pre .1) (h .loop .out) (h .loop .at)
-          (h .loop .i) (omega arith) (h .loop .inv .1) _ _ (c .before .before .put-stair .ensures))
+          (h .loop .i) (omega arith) (h .loop .inv .1) _ _ (c .before .before .put-stair .ensures),
+    )
 
 same-length : tie.Need-same-length Inv-loop μ-loop
 same-length c = search needs

@@ -71,7 +71,7 @@ same-length c = search needs
 
 returns : tie.Need-returns
 unfolding blockedLine told newline octetsIn
-returns c = 
+returns c =
     let fourth = c .before .before in
     let third = fourth .before .before .before .before .before in
     let second = third .before .before .before .before .before in

@@ -32,7 +32,7 @@ same-length c = search needs
 
 returns : tie.Need-returns
 unfolding told octetsIn
-returns c = 
+returns c =
     let second = c .before .before in
     let first = second .before .before .before .before .before in
     wrote-next (first .put-told .ensures .0) (second .put-told2 .ensures .0)

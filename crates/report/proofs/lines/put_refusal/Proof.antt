@@ -53,7 +53,7 @@ same-length c = search needs
 
 returns : tie.Need-returns
 unfolding refusedLine told newline octetsIn
-returns c = 
+returns c =
     let third = c .before .before in
     let second = third .before .before .before .before .before in
     let first = second .before .before .before .before .before in

@@ -15,7 +15,7 @@ slice-aggregate-put-bound : tie.Need-slice-aggregate-put-bound
 slice-aggregate-put-bound c = search needs
 
 put-bound-requires : tie.Need-put-bound-requires
-put-bound-requires c κs = 
+put-bound-requires c κs =
     let g = c .before .before .before in
     let a = g .before .before .before .args in
     omega (arith, bound-length (a .deadline) (a .figure) (g .figure .given .0 .0) (g .figure .given .1))
@@ -33,7 +33,7 @@ cast-put-bound : tie.Need-cast-put-bound
 cast-put-bound c = search needs
 
 put-bound-requires-2 : tie.Need-put-bound-requires-2
-put-bound-requires-2 c κs = 
+put-bound-requires-2 c κs =
     let w = c .before .before .before in
     let g = w .before .before .before in
     let a = g .before .before .before .args in
@@ -48,7 +48,7 @@ same-length c = search needs
 
 returns : tie.Need-returns
 unfolding told octetsIn
-returns c = 
+returns c =
     let w = c .before .before .before .before .before .before in
     let g = w .before .before .before in
     let a = g .before .before .before .args in
@@ -60,7 +60,7 @@ slice-aggregate-put-word : tie.Need-slice-aggregate-put-word
 slice-aggregate-put-word c = search needs
 
 put-word-requires : tie.Need-put-word-requires
-put-word-requires c κs = 
+put-word-requires c κs =
     let m = c .before .before in
     let g = m .before .before in
     let a = g .before .before .before .args in
@@ -75,7 +75,7 @@ same-length-2 c = search needs
 
 returns-2 : tie.Need-returns-2
 unfolding told octetsIn
-returns-2 c = 
+returns-2 c =
     let g = c .before .before .before .before .before .before in
     let a = g .before .before .before .args in
     rw (bound-words (a .deadline) (a .figure) (g .figure .given .0 .0) (g .figure .given .1))
@@ -86,7 +86,7 @@ same-length-3 c = search needs
 
 returns-3 : tie.Need-returns-3
 unfolding octetsIn
-returns-3 c = 
+returns-3 c =
     let m = c .before .before .before .before .before in
     let g = m .before .before in
     let a = g .before .before .before .args in
