@@ -2,7 +2,8 @@
 -- Assumes nothing.
 use mathlib.Core.Path.{_≡_, refl, sym, ap, _∙_}
 use Prim.Native.Nat.{ℕ, _+_, _-_, _*_, _/_, _≤_, _<_}
-use native.Mathlib.Nat.{le-trans}
+use native.Mathlib.Nat.{le-trans, mul-assoc, mul-right-comm, mul-le-mul-left, mul-le-mul-right}
+use native.Mathlib.Nat.{div-mul-le-self, le-div-iff-mul-le}
 use native.Mathlib.Omega.{arith}
 use Rattle.meaning.specs.declared.Stream.{Stream}
 use Rattle.meaning.specs.Ranges.{horizon}
@@ -35,6 +36,21 @@ next-computed x period jitter k e =
 pub later-computed : (j : Stream) (y : ℕ) → mostIn (rowStream (j .period) 0) y ≡ laterIn j y
 unfolding steady gapOf
 later-computed j y = arrivals-alike (rowStream (j .period) 0) (steady j) refl refl .0 y ∙ sym (later-steady j y)
+
+-- a product with an inverse of the period never counts a frame too many
+pub frames-under : (x period jitter inv : ℕ) → 0 < period → inv * period ≤ 35_184_372_088_832
+    → (x + jitter) * inv / 35_184_372_088_832 + 1 ≤ mostIn (rowStream period jitter) x
+unfolding mostIn
+frames-under x period jitter inv pos h =
+    let y = x + jitter in
+    let q = y * inv / 35_184_372_088_832 in
+    let product : q * 35_184_372_088_832 * period ≤ y * inv * period =
+    mul-le-mul-right period (div-mul-le-self (y * inv) 35_184_372_088_832) in
+    let most : y * (inv * period) ≤ y * 35_184_372_088_832 = mul-le-mul-left y h in
+    let under : q * period * 35_184_372_088_832 ≤ y * 35_184_372_088_832 =
+    omega (arith, product, most, mul-assoc y inv period, mul-right-comm q 35_184_372_088_832 period) in
+    let few : q * period ≤ y = omega (arith, under) in
+    omega (arith, le-div-iff-mul-le {k = period} {x = q} {y = y} pos .1 few)
 
 -- ---- in range
 

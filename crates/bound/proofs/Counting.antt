@@ -4,7 +4,7 @@ use mathlib.Core.Path.{_≡_, refl, sym, ap, ap₂, _∙_}
 use mathlib.Core.Bool.{Bool, true, false, cond}
 use mathlib.Core.List.{List}
 use Prim.Native.Nat.{ℕ, suc, _+_, _*_, _≤_, _<_, zero-le}
-use native.Mathlib.Nat.{add-zero, le-refl, le-trans, mul-le-mul}
+use native.Mathlib.Nat.{add-zero, le-refl, le-trans, mul-le-mul, mul-le-mul-right}
 use native.Mathlib.Omega.{arith}
 use lib.ListN.{length, getD, set, length-set}
 use lib.Seq.{getD-set-other}
@@ -108,6 +108,13 @@ module _ (per jit cost : List ℕ) (x : ℕ) where
         set-below (λ k a. l ≤ a) next i s inside (λ k h. le-trans below (low k h)) under,
         high (suc x) past after,
       )
+
+-- what one stream more has at least, beside what those before it have at least
+pub row-load-under : (per jit cost : List ℕ) (x i load f : ℕ) → load ≤ rowLoad per jit cost i x
+    → f ≤ mostIn (streamAt per jit i) x → load + f * getD cost i 0 ≤ rowLoad per jit cost (i + 1) x
+unfolding rowLoad
+row-load-under per jit cost x i load f h few =
+    rw (sum-more i) (omega (arith, h, mul-le-mul-right (getD cost i 0) few))
 
 -- ---- the frames counted of rows in range
 

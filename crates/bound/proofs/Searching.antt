@@ -99,6 +99,13 @@ unfolding rowDemand rowBusy
 tried-busy v per jit cost n own base k w eb e =
     omega (arith, ap (λ (q : ℕ). q * own .wire) e, ap v (add-zero w))
 
+-- own's frames, a load that is no more than that of the rows, and the interference ask for no more than the window does
+pub tried-under : (v : ℕ → ℕ) (per jit cost : List ℕ) (n : ℕ) (own : Own) (k load blocked w : ℕ)
+    → k ≡ mostIn (ownStream own) w → load ≤ rowLoad per jit cost n w → blocked ≡ v w
+    → own .lower + k * own .wire + load + blocked ≤ rowBusy v per jit cost n own w
+unfolding rowBusy
+tried-under v per jit cost n own k load blocked w e few eb = omega (arith, ap (λ (q : ℕ). q * own .wire) e)
+
 -- ---- a search from below, after a try that asks for y
 
 module _ {f : ℕ → ℕ} {w y : ℕ} (u : Under f w) (e : y ≡ f w) where
@@ -116,6 +123,14 @@ module _ {f : ℕ → ℕ} {w y : ℕ} (u : Under f w) (e : y ≡ f w) where
 
   pub window-none : Mono f → 100_000_000 < y → Settled f 100_000_001
   window-none mono h = record { least = λ l. absurd (omega arith); none = λ l. under-over (search-goes-on mono) h }
+
+-- where no number below y closes, none below a lesser one does
+pub under-below : {f : ℕ → ℕ} {y z : ℕ} → Under f y → z ≤ y → Under f z
+under-below u h = record { under = λ x c. le-trans h (u .under x c) }
+
+-- where none up to the horizon closes, there is no window
+pub window-over : {f : ℕ → ℕ} {w : ℕ} → Under f w → 100_000_000 < w → Settled f w
+window-over u h = record { least = λ l. absurd (omega arith); none = λ l. under-over u h }
 
 -- where some number up to the horizon closes, the search never passes the horizon
 pub under-soon : {f : ℕ → ℕ} {w : ℕ} → Under f w → Closes f → w ≤ 100_000_000

@@ -30,6 +30,10 @@ rowLoad per jit cost n x = sum n (λ k. mostIn (streamAt per jit k) x * getD cos
 abbrev pub RowIn : (lo hi : ℕ) → List ℕ → ℕ → Type 0
 RowIn lo hi row n = (k : ℕ) → k < n → (lo ≤ getD row k 0) × (getD row k 0 ≤ hi)
 
+-- products with these numbers, by 2^45, are never more than the divisions by the periods
+abbrev pub Inverses : (inv per : List ℕ) (n : ℕ) → Type 0
+Inverses inv per n = (k : ℕ) → k < n → getD inv k 0 * getD per k 0 ≤ 35_184_372_088_832
+
 -- rows whose first n streams have their numbers in range
 pub record RowsFit (per jit cost : List ℕ) (n : ℕ) : Type 0 where
   pub few : n ≤ 64

@@ -1,6 +1,6 @@
 // Arrivals: all that the code takes from the formulas of document 01. How many frames can come, and when the next one.
 ghost use mathlib.Core.Path.{_≡_};
-ghost use Prim.Native.Nat.{_≤_};
+ghost use Prim.Native.Nat.{ℕ, _*_, _≤_, _<_};
 ghost use Rattle.meaning.specs.Arrivals.{mostIn};
 ghost use Rattle.meaning.proofs.Later.{nextOf};
 ghost use Rattle.bound.specs.Rows.{rowStream, stepped};
@@ -11,6 +11,24 @@ pub fn frames_in(x: u32, period: u32, jitter: u32) -> u32
     ensures { λ r. ⌜ (r ≡ mostIn (rowStream period jitter) x) × (1 ≤ r) × (r ≤ 20_001) ⌝ }
 {
     (x + jitter) / period + 1
+}
+
+// 2^45 by the period, rounded down.
+pub fn inverse(period: u32) -> u32
+    requires { ⌜ 10_000 ≤ period ⌝ }
+    ensures { λ r. ⌜ r * period ≤ 35_184_372_088_832 ⌝ }
+{
+    (35_184_372_088_832 / period as u64) as u32
+}
+
+// Frames in a closed stretch of x ns, by a product with the inverse of the period in place of a division: never more than
+// there are, and seldom one fewer.
+pub fn frames_at_least(x: u32, jitter: u32, inv: u32) -> u32
+    requires { ⌜ (x ≤ 100_000_000) × (jitter ≤ 100_000_000) ⌝ }
+    ensures { λ r. ⌜ ((period : ℕ) → 0 < period → inv * period ≤ 35_184_372_088_832
+        → r ≤ mostIn (rowStream period jitter) x) × (r ≤ 30_000) ⌝ }
+{
+    ((x + jitter) as u64 * inv as u64 / 35_184_372_088_832) as u32 + 1
 }
 
 // When one frame more than in x ns can come.

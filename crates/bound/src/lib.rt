@@ -13,6 +13,7 @@ ghost use Rattle.bound.specs.Answers.{responseOf, Asks, RowsAsk, BoundFo
 mod arrivals;
 mod counts;
 mod frames;
+mod hasten;
 mod search;
 
 use arrivals::frames_in;

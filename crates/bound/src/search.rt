@@ -12,6 +12,7 @@ use crate::arrivals::frames_in;
 use crate::counts::Counts;
 use crate::counts::advance;
 use crate::counts::count;
+use crate::hasten::hasten;
 
 // The horizon, in ns.
 pub const HORIZON: u64 = 100_000_000;
@@ -110,7 +111,10 @@ pub fn window<'a>(
         (now (per .entry)) (now (jit .entry)) (now (cost .entry)) (g .n) own) r
         × (length (now (next .exit)) ≡ 64) ⌝ }
 {
-    let mut w: u32 = 0;
+    let mut w = hasten(per, jit, cost, far, tot, g, own);
+    if 100_000_000 < w {
+        return w;
+    }
     let mut seen = count(next, per, jit, cost, g.n, w);
     loop {
         let frames = frames_in(w, own.period, own.jitter) as u64;

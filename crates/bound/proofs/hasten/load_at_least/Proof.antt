@@ -1,0 +1,125 @@
+-- `bound::hasten::load_at_least` meets its contract. The invariant: it is no more than the load of the first i streams,
+-- whichever periods have these inverses. The measure: the streams left.
+-- Assumes nothing.
+use mathlib.Core.Path.{_≡_}
+use mathlib.Core.List.{List}
+use Prim.Native.Nat.{ℕ, _-_, _*_, _≤_, zero-le}
+use native.Mathlib.Nat.{mul-le-mul}
+use native.Mathlib.Omega.{arith}
+use lib.ListN.{getD}
+use borrow.Author.Needs.{needs}
+use Rattle.bound.specs.Rows.{rowLoad, RowIn, Inverses}
+use Rattle.bound.proofs.Counting.{row-load-under}
+use Rattle.bound.proofs.hasten.load_at_least.Statement.{statement}
+use Rattle.bound.proofs.hasten.load_at_least.Tie as tie
+
+abbrev Inv-loop : tie.InvT-loop
+Inv-loop jit cost inv n x load₀ i₀ load i =
+    (i ≤ n) × (load ≤ i * 60_000_000_000)
+    × ((per : List ℕ) → RowIn 10_000 100_000_000 per n → Inverses inv per n → load ≤ rowLoad per jit cost i x)
+
+abbrev μ-loop : tie.MeasureT-loop
+μ-loop jit cost inv n x load₀ i₀ load i = n - i
+
+loop-holds : tie.Need-loop-holds Inv-loop μ-loop
+loop-holds c = (omega arith, omega arith, λ per p v. zero-le)
+
+mul-c : tie.Need-mul-c Inv-loop μ-loop
+mul-c c = search needs
+
+element-copy-out-c : tie.Need-element-copy-out-c Inv-loop μ-loop
+element-copy-out-c c = search needs
+
+mul-frames-at-least : tie.Need-mul-frames-at-least Inv-loop μ-loop
+mul-frames-at-least c = search needs
+
+element-copy-out-frames-at-least : tie.Need-element-copy-out-frames-at-least Inv-loop μ-loop
+element-copy-out-frames-at-least c = search needs
+
+mul-frames-at-least-2 : tie.Need-mul-frames-at-least-2 Inv-loop μ-loop
+mul-frames-at-least-2 c = search needs
+
+element-copy-out-frames-at-least-2 : tie.Need-element-copy-out-frames-at-least-2 Inv-loop μ-loop
+element-copy-out-frames-at-least-2 c = search needs
+
+frames-at-least-requires : tie.Need-frames-at-least-requires Inv-loop μ-loop
+frames-at-least-requires c κs =
+    let h = c .before .before .before .before in
+    (h .before .pre .3, h .before .pre .1 (h .loop .i) (omega arith) .1)
+
+cast-load : tie.Need-cast-load Inv-loop μ-loop
+cast-load c = search needs
+
+-- a wire time, and that of all frames of a stream
+cost-few : (c : tie.After-frames-at-least Inv-loop μ-loop)
+    → let h = c .before .before .before .before .before in
+    getD (h .before .args .cost .now) (h .loop .i) 0 ≤ 2_000_000
+cost-few c =
+    let h = c .before .before .before .before .before in
+    h .before .pre .2 (h .loop .i) (omega arith) .1
+
+product : (c : tie.After-frames-at-least Inv-loop μ-loop)
+    → let h = c .before .before .before .before .before in
+    c .frames-at-least .result * getD (h .before .args .cost .now) (h .loop .i) 0 ≤ 60_000_000_000
+product c =
+    let h = c .before .before .before .before .before in
+    mul-le-mul {n₁ = c .frames-at-least .result} {m₁ = getD (h .before .args .cost .now) (h .loop .i) 0}
+    {n₂ = 30_000} {m₂ = 2_000_000} (c .frames-at-least .ensures .1) (cost-few c)
+
+cast-load-2 : tie.Need-cast-load-2 Inv-loop μ-loop
+cast-load-2 c = omega (arith, cost-few c)
+
+mul-load : tie.Need-mul-load Inv-loop μ-loop
+mul-load c = omega (arith, product c)
+
+add-load : tie.Need-add-load Inv-loop μ-loop
+add-load c =
+    let h = c .before .before .before .before .before in
+    omega (arith, product c, h .loop .inv .1, h .before .pre .0)
+
+add-i : tie.Need-add-i Inv-loop μ-loop
+add-i c = search needs
+
+loop-less : tie.Need-loop-less Inv-loop μ-loop
+loop-less c = search needs
+
+loop-again : tie.Need-loop-again Inv-loop μ-loop
+loop-again c =
+    let h = c .before .before .before .before .before in
+    let a = h .before .args in
+    let l = h .loop in
+    let f = c .frames-at-least in (
+      omega arith,
+      omega (arith, product c, l .inv .1),
+      λ per p v. row-load-under per (a .jit .now) (a .cost .now) (a .x) (l .i) (l .load) (f .result) (l .inv .2 per p v)
+          (f .ensures .0 (getD per (l .i) 0) (omega (arith, p (l .i) (omega arith))) (v (l .i) (omega arith))),
+    )
+
+returns : tie.Need-returns Inv-loop μ-loop
+returns c =
+    let h = c .before in
+    let e : h .loop .i ≡ h .before .args .n = omega arith in
+    (λ per p v. rw e at (h .loop .inv .2 per p v), omega (arith, h .loop .inv .1))
+
+pub load-at-least-spec : {M : Type 1} → statement M
+load-at-least-spec =
+    tie.close
+    (tie.spec
+    Inv-loop
+    μ-loop
+    loop-holds
+    mul-c
+    element-copy-out-c
+    mul-frames-at-least
+    element-copy-out-frames-at-least
+    mul-frames-at-least-2
+    element-copy-out-frames-at-least-2
+    frames-at-least-requires
+    cast-load
+    cast-load-2
+    mul-load
+    add-load
+    add-i
+    loop-less
+    loop-again
+    returns)
