@@ -21,8 +21,8 @@ pub fn inverse(period: u32) -> u32
     (35_184_372_088_832 / period as u64) as u32
 }
 
-// Frames in a closed stretch of x ns, by a product with the inverse of the period in place of a division: never more than
-// there are, and seldom one fewer.
+// Frames in a closed stretch of x ns, by a product with the inverse of the period in place of a division: never more
+// than there are, and seldom one fewer.
 pub fn frames_at_least(x: u32, jitter: u32, inv: u32) -> u32
     requires { ⌜ (x ≤ 100_000_000) × (jitter ≤ 100_000_000) ⌝ }
     ensures { λ r. ⌜ ((period : ℕ) → 0 < period → inv * period ≤ 35_184_372_088_832

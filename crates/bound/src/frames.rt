@@ -17,7 +17,7 @@ use crate::search::settle;
 
 // How many frames are enough, of all that the busy window has from the last that can come at 0 on. Where the window
 // without jitter and without streams of lower priority closes soon, as many as come later in that, and one; else all.
-// The search for it ends after a quarter as many tries as there are frames: further on it would cost more than it saves.
+// The search for it ends after an eighth as many tries as there are frames: further on it would cost more than it saves.
 pub fn enough<'a>(
     next: &mut [u32; 64],
     per: &[u32; 64],
@@ -37,7 +37,7 @@ pub fn enough<'a>(
 {
     let mut w: u32 = 0;
     let mut seen = count(next, per, calm, cost, g.n, w);
-    let mut tries = all / 4;
+    let mut tries = all / 8;
     while 0 < tries {
         let k = frames_in(w, own.period, 0);
         if all <= k + 1 {

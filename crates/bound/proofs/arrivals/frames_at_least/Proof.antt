@@ -32,7 +32,7 @@ add-result-2 c = omega (arith, product c)
 returns : tie.Need-returns
 returns c =
     let a = c .args in
-    (λ t pos h. frames-under (a .x) t (a .jitter) (a .inv) pos h, omega (arith, product c))
+    (λ t pos h. omega (arith, frames-under (a .x) t (a .jitter) (a .inv) pos h), omega (arith, product c))
 
 pub frames-at-least-spec : {M : Type 1} → statement M
 frames-at-least-spec =

@@ -1,5 +1,5 @@
--- `bound::hasten::hasten` meets its contract. The invariant: no number below w closes. The measure: how far w is from the
--- horizon.
+-- `bound::hasten::hasten` meets its contract. The invariant: no number below w closes. The measure: how far w is
+-- from the horizon.
 -- Assumes nothing.
 use Prim.Native.Nat.{_+_, _-_, _*_, _≤_}
 use native.Mathlib.Nat.{mul-le-mul}
@@ -98,7 +98,8 @@ returns c =
 goes-on : (c : tie.After-interference Inv-loop μ-loop)
     → let f = c .before .before .before .before .before in
     let a = f .before .before .before .args in
-    Under (rowBusy (tableOf (a .far .now) (a .tot .now) (a .g)) (a .per .now) (a .jit .now) (a .cost .now) (a .g .n) (a .own))
+    Under (rowBusy (tableOf (a .far .now) (a .tot .now) (a .g)) (a .per .now) (a .jit .now) (a .cost .now) (a .g .n)
+    (a .own))
     (a .own .lower + f .frames-in .result * a .own .wire + c .before .load-at-least .result + c .interference .result)
 goes-on c =
     let f = c .before .before .before .before .before in
@@ -107,8 +108,10 @@ goes-on c =
     let a = s .args in
     let v = tableOf (a .far .now) (a .tot .now) (a .g) in
     let grows =
-    row-busy-mono (a .per .now) (a .jit .now) (a .cost .now) (a .g .n) (s .pre .0) v (s .pre .1 .grows) (a .own) (s .pre .2) in
-    let load = c .before .load-at-least .ensures .0 (a .per .now) (s .pre .0 .periods) (h .before .inverses .ensures) in
+    row-busy-mono (a .per .now) (a .jit .now) (a .cost .now) (a .g .n) (s .pre .0) v (s .pre .1 .grows) (a .own)
+    (s .pre .2) in
+    let load =
+    c .before .load-at-least .ensures .0 (a .per .now) (s .pre .0 .periods) (h .before .inverses .ensures) in
     under-below (under-step grows (h .loop .inv .0))
     (tried-under v (a .per .now) (a .jit .now) (a .cost .now) (a .g .n) (a .own) (f .frames-in .result)
     (c .before .load-at-least .result) (c .interference .result) (h .loop .w) (f .frames-in .ensures .0) load

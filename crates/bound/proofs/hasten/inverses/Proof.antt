@@ -1,5 +1,5 @@
--- `bound::hasten::inverses` meets its contract. The invariant: the first i periods have their inverses. The measure: those
--- left.
+-- `bound::hasten::inverses` meets its contract. The invariant: the first i periods have their inverses. The measure:
+-- those left.
 -- Assumes nothing.
 use mathlib.Core.Path.{_≡_, refl}
 use Prim.Native.Nat.{_-_, _*_, _≤_}
@@ -49,8 +49,8 @@ loop-again c =
     let l = h .loop in
     let room = h .before .pre .0 in (
       omega arith,
-      set-below (λ k v. v * getD (h .before .args .per .now) k 0 ≤ 35_184_372_088_832) (l .row) (l .i) (c .inverse .result)
-          (omega (arith, l .inv .2, room)) (l .inv .1) (c .inverse .ensures),
+      set-below (λ k v. v * getD (h .before .args .per .now) k 0 ≤ 35_184_372_088_832) (l .row) (l .i)
+          (c .inverse .result) (omega (arith, l .inv .2, room)) (l .inv .1) (c .inverse .ensures),
       rw length-set (l .inv .2),
     )
 

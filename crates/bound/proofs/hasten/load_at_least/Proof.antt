@@ -1,5 +1,5 @@
--- `bound::hasten::load_at_least` meets its contract. The invariant: it is no more than the load of the first i streams,
--- whichever periods have these inverses. The measure: the streams left.
+-- `bound::hasten::load_at_least` meets its contract. The invariant: it is no more than the load of the first i
+-- streams, whichever periods have these inverses. The measure: the streams left.
 -- Assumes nothing.
 use mathlib.Core.Path.{_≡_}
 use mathlib.Core.List.{List}
@@ -91,7 +91,8 @@ loop-again c =
     let f = c .frames-at-least in (
       omega arith,
       omega (arith, product c, l .inv .1),
-      λ per p v. row-load-under per (a .jit .now) (a .cost .now) (a .x) (l .i) (l .load) (f .result) (l .inv .2 per p v)
+      λ per p v. row-load-under per (a .jit .now) (a .cost .now) (a .x) (l .i) (l .load) (f .result)
+          (l .inv .2 per p v)
           (f .ensures .0 (getD per (l .i) 0) (omega (arith, p (l .i) (omega arith))) (v (l .i) (omega arith))),
     )
 
