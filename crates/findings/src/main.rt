@@ -1,7 +1,6 @@
 // Prints the findings of the plan on standard input (document 01, "Findings program"). What it prints is proved in
 // `report`; here octets are read and written.
-ghost use mathlib.Core.Path.{_≡_};
-ghost use Prim.Native.Nat.{_≤_};
+ghost use Prim.Native.Nat.{_+_, _≤_};
 ghost use lib.ListN.{length};
 use libc::STDIN_FILENO;
 use libc::STDOUT_FILENO;
@@ -12,51 +11,38 @@ struct Taken {
     failed: bool,
 }
 
-// Room for the longest text.
-fn room() -> [u8; 32768]
-    ensures { λ r. ⌜ 32_768 ≡ length r ⌝ }
-{
-    [0; 32768]
-}
-
-// One read into the buffer, from a place on: -1 where it failed, 0 at the end of the input.
-fn more(buf: &mut [u8], from: usize) -> isize
+// One read into the buffer, from a place on; no octets at the end of the input.
+fn more(buf: &mut [u8], from: usize) -> Taken
     requires { ⌜ from ≤ length (now buf) ⌝ }
+    ensures { λ r. ⌜ from + r .octets ≤ length (now (buf .entry)) ⌝ }
 {
-    libc::read(STDIN_FILENO, &mut buf[from..])
+    let got = libc::read(STDIN_FILENO, &mut buf[from..]);
+    let failed = got < 0;
+    let octets = io::count(got, &buf[from..]);
+    Taken { octets, failed }
 }
 
-// Reads until the buffer is full or the input ends: a pipe gives its octets in parts.
+// Reads until the buffer is full, the input ends or a read fails: a pipe gives its octets in parts.
 fn fill(buf: &mut [u8]) -> Taken
     ensures { λ r. ⌜ r .octets ≤ length (now (buf .exit)) ⌝ }
 {
     let mut n: usize = 0;
+    let mut failed = false;
     while n < buf.len() {
-        let got = more(buf, n);
-        if got < 0 {
-            return Taken {
-                octets: n,
-                failed: true,
-            };
-        }
-        let k = io::count(got, &buf[n..]);
+        let part = more(buf, n);
+        failed = part.failed;
+        let k = part.octets;
         if k == 0 {
-            return Taken {
-                octets: n,
-                failed: false,
-            };
+            break;
         }
         n += k;
     }
-    Taken {
-        octets: n,
-        failed: false,
-    }
+    Taken { octets: n, failed }
 }
 
 fn main() {
     let mut input = io::buffer();
-    let mut text = room();
+    let mut text = report::room();
     let taken = fill(&mut input);
     if taken.failed {
         os::fail(b"findings: standard input");

@@ -92,6 +92,13 @@ pub fn put_refused(out: &mut [u8], why: Refusal, place: usize) -> usize
     put_refusal(out, number(why), place)
 }
 
+// Room for the longest text, which has 28,543 octets.
+pub fn room() -> [u8; 32768]
+    ensures { λ r. ⌜ 32_768 ≡ length r ⌝ }
+{
+    [0; 32768]
+}
+
 // The findings of an input.
 pub fn report(input: &[u8], out: &mut [u8]) -> usize
     requires { ⌜ 32_768 ≤ length (now out) ⌝ }

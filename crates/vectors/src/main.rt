@@ -3,17 +3,10 @@ ghost use mathlib.Core.Path.{_≡_};
 ghost use lib.ListN.{length};
 use libc::STDOUT_FILENO;
 
-// Room for the longest text.
-fn room() -> [u8; 32768]
-    ensures { λ r. ⌜ 32_768 ≡ length r ⌝ }
-{
-    [0; 32768]
-}
-
 // The findings of the file, from its first 4,096 octets.
 fn show(fd: i32) {
     let mut input = io::buffer();
-    let mut text = room();
+    let mut text = report::room();
     let n = io::read_full(fd, &mut input);
     let k = report::answer(&input[..n], &mut text);
     io::write_all(STDOUT_FILENO, &text[..k]);
