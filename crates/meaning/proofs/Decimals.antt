@@ -41,8 +41,8 @@ decimal-small n h = within-small n n h
 pub decimal-more : (n : ℕ) → 10 ≤ n → decimal n ≡ decimal (n / 10) ++ ((48 + n % 10) ∷ [])
 unfolding decimal
 decimal-more n h =
-    within-more n n h
-    ∙ ap (λ (xs : List ℕ). xs ++ ((48 + n % 10) ∷ [])) (within-same n (suc (n / 10)) (n / 10) (omega arith) (omega arith))
+    let same = within-same n (suc (n / 10)) (n / 10) (omega arith) (omega arith) in
+    within-more n n h ∙ ap (λ (xs : List ℕ). xs ++ ((48 + n % 10) ∷ [])) same
 
 -- what holds of the small numbers, and of n where it holds of n / 10, holds of all
 pub by-digits : (P : ℕ → Type 0) → ((n : ℕ) → n < 10 → P n) → ((n : ℕ) → 10 ≤ n → P (n / 10) → P n) → (n : ℕ) → P n
@@ -90,7 +90,7 @@ decimal-some =
     by-digits (λ n. 1 ≤ length (decimal n)) (λ n h. rw (decimal-small n h) (omega arith))
     (λ n h l. rw (decimal-more n h, length-append (decimal (n / 10)) ((48 + n % 10) ∷ [])) (omega arith))
 
--- "no leading zero": the first is 0 only in "0" itself
+-- no zero stands in front: the first is 0 only in "0" itself
 pub decimal-first : (n : ℕ) → 1 ≤ n → 48 < getD (decimal n) 0 0
 decimal-first =
     by-digits (λ n. 1 ≤ n → 48 < getD (decimal n) 0 0) (λ n h k. rw (decimal-small n h) (omega arith))

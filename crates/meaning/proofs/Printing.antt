@@ -1,20 +1,19 @@
--- What `findings` prints: of a long input, a stream's line by the response call, lines of one newline, and plan F's text.
+-- What `findings` prints: of a long input, of a stream by the response call, lines of one newline, and of plan F.
 -- Assumes nothing.
-use mathlib.Core.Path.{_≡_, refl, sym, ap, ap₂, _∙_}
+use mathlib.Core.Path.{_≡_, refl, sym, ap, _∙_}
 use mathlib.Core.Logic.{_≢_, ⊎-elim}
 use mathlib.Core.Bool.{Bool, true, false, cond}
-use mathlib.Core.List.{List, [], _∷_, _++_, append-assoc, List·Memᴰ·append-cases}
+use mathlib.Core.List.{List, [], _∷_, _++_, List·Memᴰ·append-cases}
 use mathlib.Core.Option.{Option, none, some}
-use Prim.Native.Nat.{ℕ, _<_}
+use Prim.Native.Nat.{ℕ}
 use Prim.Native.String.{String}
 use native.Mathlib.Omega.{arith}
 use lib.Dec.{eqb, ltb}
 use lib.ListN.{length, take}
 use borrow.Author.Tests.{eq-eqb, ne-eqb}
 use Rattle.laws.specs.Lists.{any, find, total, joined, Mem, RisingBy}
-use Rattle.laws.proofs.Lists.{any-false}
+use Rattle.laws.proofs.Lists.{mem-none, any-false}
 use Rattle.laws.proofs.Keeping.{in-cons}
-use Rattle.laws.proofs.Lists.{mem-none}
 use Rattle.meaning.specs.declared.Port.{Port}
 use Rattle.meaning.specs.declared.Slot.{Slot}
 use Rattle.meaning.specs.declared.Stream.{Stream}
@@ -25,7 +24,6 @@ use Rattle.meaning.specs.Interference.{allLen, stairs}
 use Rattle.meaning.specs.Refusals.{numberOf}
 use Rattle.meaning.specs.Desks.{opened}
 use Rattle.meaning.specs.Calls.{boundOf, verdict, respond, askResponse}
-use Rattle.meaning.specs.Bytes.{readPlan}
 use Rattle.meaning.specs.Findings.{octetsIn, digitsWithin, decimal, told, newline, blockedLine, stairLine}
 use Rattle.meaning.specs.Findings.{verdictWords, streamLine, refusedLine, deskLines, printed, findings}
 use Rattle.meaning.specs.Figures.{octetsF, portF, slotsF, streamF₁, streamF₂, run, stair}
@@ -142,7 +140,8 @@ textF rs st b₁ b₂ =
 
 is-textF : deskLines portF slotsF (streamF₁ ∷ streamF₂ ∷ [])
     ≡ textF (runs gateF slotsF) (stairs gateF slotsF)
-    (boundOf portF slotsF (streamF₁ ∷ streamF₂ ∷ []) streamF₁) (boundOf portF slotsF (streamF₁ ∷ streamF₂ ∷ []) streamF₂)
+    (boundOf portF slotsF (streamF₁ ∷ streamF₂ ∷ []) streamF₁)
+    (boundOf portF slotsF (streamF₁ ∷ streamF₂ ∷ []) streamF₂)
 unfolding deskLines blockedLine joined gateOf textF
 is-textF = refl
 

@@ -1,7 +1,7 @@
 -- A text written part by part: each part fills the front of what those before it leave of the room.
 -- Assumes nothing.
 use mathlib.Core.Path.{_≡_, refl, sym, ap, subst, _∙_}
-use mathlib.Core.List.{List, [], _∷_, _++_, append-nil, append-assoc}
+use mathlib.Core.List.{List, [], _∷_, _++_, append-nil}
 use Prim.Native.Nat.{ℕ, suc, _+_, _-_, _≤_, _<_}
 use native.Mathlib.Numerals.{add-one}
 use native.Mathlib.Omega.{arith}
@@ -60,7 +60,13 @@ module _ {A : Type 0} (part : A → List ℕ) where
 
   pub parts-start : (r : List ℕ) (xs : List A) → Parts r xs r 0 0
   unfolding joined
-  parts-start r xs = record { reached = omega arith; wrote = record { count = refl; room = refl }; long = refl; within = omega arith }
+  parts-start r xs =
+      record {
+        reached = omega arith;
+        wrote = record { count = refl; room = refl };
+        long = refl;
+        within = omega arith;
+      }
 
   module _ (r : List ℕ) (xs : List A) (fits : length (joined part xs) ≤ length r) (room : List ℕ) (at i : ℕ) (d : A)
       (h : i < length xs) (p : Parts r xs room at i) where

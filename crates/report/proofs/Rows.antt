@@ -51,7 +51,8 @@ stair-get (x ∷ far) (z ∷ tot) (suc n) zero d a b h = refl
 stair-get (x ∷ far) (z ∷ tot) (suc n) (suc i) d a b h =
     stair-get far tot n i d (omega arith) (omega arith) (omega arith)
 
-pub stair-line-length : (x : Stair) → length (stairLine x) ≡ 8 + length (decimal (x .far)) + length (decimal (x .total))
+pub stair-line-length : (x : Stair)
+    → length (stairLine x) ≡ 8 + length (decimal (x .far)) + length (decimal (x .total))
 unfolding stairLine told newline octetsIn
 stair-line-length x =
     length-append (told "stair " (x .far) ++ told " " (x .total)) newline

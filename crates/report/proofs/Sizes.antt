@@ -1,7 +1,6 @@
 -- How long the text is at most: every number of a line has few digits, and there are few lines.
 -- Assumes nothing.
-use mathlib.Core.Path.{_≡_, refl, sym, ap, subst, _∙_}
-use mathlib.Core.Logic.{⊎-elim}
+use mathlib.Core.Path.{_≡_, refl, _∙_}
 use mathlib.Core.Bool.{Bool, true, false, cond}
 use mathlib.Core.List.{List, [], _∷_, _++_, List·Memᴰ·tail}
 use mathlib.Core.Option.{Option, none, some}
@@ -18,7 +17,6 @@ use Rattle.meaning.specs.declared.Port.{Port}
 use Rattle.meaning.specs.declared.Slot.{Slot}
 use Rattle.meaning.specs.declared.Stream.{Stream}
 use Rattle.meaning.specs.declared.Stair.{Stair}
-use Rattle.meaning.specs.declared.Refusal.{Refusal}
 use Rattle.meaning.specs.Ranges.{horizon, mostSlots, mostStreams, octetLimit}
 use Rattle.meaning.specs.Runs.{gateOf, runs}
 use Rattle.meaning.specs.Interference.{allLen, pairs, stairs, interference}
@@ -144,16 +142,20 @@ module _ (p : Port) (ss : List Slot) (js : List Stream) (s : Sound p ss js) wher
       let rest = others (j .id) js in
       let rest-pos : (i : Stream) → Mem i rest → 0 < i .period = λ i k. pos i (keep-mem _ js i .0 k .0) in
       bound-at-most (p .rate) (interference (gateOf p js) ss) (lowerWire (p .rate) j rest) rest j rest-pos
-      (bound-iff (p .rate) (interference (gateOf p js) ss) (lowerWire (p .rate) j rest) rest j rest-pos (pos j m) b .0 e)
+      (bound-iff (p .rate) (interference (gateOf p js) ss) (lowerWire (p .rate) j rest) rest j rest-pos (pos j m) b .0
+      e)
 
   verdict-short : (j : Stream) (b : Option ℕ) → Mem j js → boundOf p ss js j ≡ b → length (verdictWords j b) ≤ 29
   unfolding verdictWords octetsIn
   verdict-short j none m e = omega arith
   verdict-short j (some b) m e = go (ltb (j .deadline) b)
     where
+      due : j .deadline ≤ 100_000_000
+      due = stream-in (octetLimit p) j .0 (s .streams-in j m) .8
+
       go : (late : Bool) → length (told (cond late " late " " bound ") b ++ told " of " (j .deadline)) ≤ 29
-      go true = two-told " late " b (j .deadline) (omega arith) (bound-small j b m e) (stream-in (octetLimit p) j .0 (s .streams-in j m) .8)
-      go false = two-told " bound " b (j .deadline) (omega arith) (bound-small j b m e) (stream-in (octetLimit p) j .0 (s .streams-in j m) .8)
+      go true = two-told " late " b (j .deadline) (omega arith) (bound-small j b m e) due
+      go false = two-told " bound " b (j .deadline) (omega arith) (bound-small j b m e) due
 
   stream-short : (j : Stream) → Mem j js → length (streamLine j (boundOf p ss js j)) ≤ 42
   unfolding streamLine told newline octetsIn

@@ -65,8 +65,8 @@ module _ (d : Desk) (f : Fit d) (o : d .opened ≡ true) where
           ap (λ (n : ℕ). length (decimal n)) is-count,
         )
 
-    pub first-wrote : {r : ℕ} {before after : List ℕ} → Wrote (blockedLine all (d .cycle) (reply .runs .n)) r before after
-        → Wrote (firstIn d) r before after
+    pub first-wrote : {r : ℕ} {before after : List ℕ}
+        → Wrote (blockedLine all (d .cycle) (reply .runs .n)) r before after → Wrote (firstIn d) r before after
     first-wrote w = wrote-as is-first w
 
   pub sized : Sized d

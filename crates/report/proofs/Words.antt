@@ -1,6 +1,6 @@
 -- The words of a figure, case by case, and the octets that lines have.
 -- Assumes nothing.
-use mathlib.Core.Path.{_≡_, refl, sym, ap, _∙_}
+use mathlib.Core.Path.{_≡_, refl, ap, _∙_}
 use mathlib.Core.List.{List, [], _∷_, _++_}
 use Prim.Native.Nat.{ℕ, _+_}
 use native.Mathlib.Omega.{arith}
@@ -12,7 +12,7 @@ use Rattle.meaning.specs.declared.Refusal.the-variants.{CutShort, UnknownTag, W
 use Rattle.meaning.specs.declared.Refusal.the-variants.{Overlap, Full, IdHeld, NotHeld, NoFreeCell, NoRoom, Endless}
 use Rattle.meaning.specs.declared.Refusal.the-variants.{Late, OverHorizon}
 use Rattle.meaning.specs.Refusals.{valuesOf}
-use Rattle.meaning.specs.Findings.{octetsIn, decimal, told, newline}
+use Rattle.meaning.specs.Findings.{octetsIn, decimal, told}
 use Rattle.meaning.proofs.Refusal.{the-type}
 use Rattle.desk.specs.declared.Figure.{Figure}
 use Rattle.desk.specs.declared.Figure.the-variants as Figures
@@ -41,7 +41,8 @@ carries-none (Late b) h = absurd (miss otherTags 12 tt h)
 carries-none OverHorizon h = refl
 
 module _ (deadline : ℕ) (figure : Figure) where
-  pub bound-words : (b : ℕ) → figure ≡ Figures.Is b → figureWords deadline figure ≡ told " bound " b ++ told " of " deadline
+  pub bound-words : (b : ℕ) → figure ≡ Figures.Is b
+      → figureWords deadline figure ≡ told " bound " b ++ told " of " deadline
   unfolding figureWords
   bound-words b e = ap (figureWords deadline) e
 
@@ -56,7 +57,8 @@ module _ (deadline : ℕ) (figure : Figure) where
   endless-words why e l = ap (figureWords deadline) e ∙ ap (refusalWords deadline) l
 
   told-of : (word : List ℕ) (b : ℕ)
-      → length (word ++ decimal b ++ told " of " deadline) ≡ length word + length (decimal b) + 4 + length (decimal deadline)
+      → length (word ++ decimal b ++ told " of " deadline)
+      ≡ length word + length (decimal b) + 4 + length (decimal deadline)
   unfolding told octetsIn
   told-of word b =
       length-append (word ++ decimal b) (told " of " deadline)

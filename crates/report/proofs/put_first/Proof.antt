@@ -10,14 +10,18 @@ runs-requires : tie.Need-runs-requires
 runs-requires c κs = search needs
 
 all-blocked-requires : tie.Need-all-blocked-requires
-all-blocked-requires c κs = let s = c .before .before .before .before .before in few-stairs (s .args .t2) (s .pre .0) (s .pre .1)
+all-blocked-requires c κs =
+    let s = c .before .before .before .before .before in
+    few-stairs (s .args .t2) (s .pre .0) (s .pre .1)
 
 put-blocked-requires : tie.Need-put-blocked-requires
 put-blocked-requires c κs =
     let s = c .before .before .before .before .before .before .before in
     let runs = c .before .before .before .before .before .runs in
     let all = c .before .all-blocked in
-    omega (arith, first-fits (s .args .t2) (s .pre .0) (s .pre .1) (all .result) (runs .result) (all .ensures) (runs .ensures .0))
+    let fit =
+    first-fits (s .args .t2) (s .pre .0) (s .pre .1) (all .result) (runs .result) (all .ensures) (runs .ensures .0) in
+    omega arith
 
 same-length : tie.Need-same-length
 same-length c = search needs

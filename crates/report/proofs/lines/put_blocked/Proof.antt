@@ -76,9 +76,8 @@ returns c =
     let third = fourth .before .before .before .before .before in
     let second = third .before .before .before .before .before in
     let first = second .before .before .before .before .before in
-    wrote-next
-    (wrote-next (wrote-next (first .put-told .ensures .0) (second .put-told2 .ensures .0)) (third .put-told3 .ensures .0))
-    (fourth .put-word .ensures)
+    let two = wrote-next (first .put-told .ensures .0) (second .put-told2 .ensures .0) in
+    wrote-next (wrote-next two (third .put-told3 .ensures .0)) (fourth .put-word .ensures)
 
 pub put-blocked-spec : {M : Type 1} → statement M
 put-blocked-spec =
