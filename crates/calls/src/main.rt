@@ -35,26 +35,6 @@ fn put_pair(a: u32, b: u32) {
     put(b as u64, true);
 }
 
-// Document 01's number of a refusal.
-fn number(r: Refusal) -> u64 {
-    match r {
-        Refusal::CutShort => 1,
-        Refusal::UnknownTag => 2,
-        Refusal::WrongLength => 3,
-        Refusal::OutOfTurn => 4,
-        Refusal::OutOfRange => 5,
-        Refusal::Overlap => 6,
-        Refusal::Full => 7,
-        Refusal::IdHeld => 8,
-        Refusal::NotHeld => 9,
-        Refusal::NoFreeCell => 10,
-        Refusal::NoRoom => 11,
-        Refusal::Endless => 12,
-        Refusal::Late { bound } => 13,
-        Refusal::OverHorizon => 14,
-    }
-}
-
 // The bound that a refusal carries, 0 where it carries none.
 fn carried(r: Refusal) -> u64 {
     if let Refusal::Late { bound } = r {
@@ -66,7 +46,7 @@ fn carried(r: Refusal) -> u64 {
 fn verdict_number(v: Verdict) -> u64 {
     match v {
         Verdict::Accepted => 0,
-        Verdict::Refused(r) => number(r),
+        Verdict::Refused(r) => desk::number(r),
     }
 }
 
@@ -89,7 +69,7 @@ fn put_figure(f: Figure) {
             put(x, true);
         }
         Figure::Refused(r) => {
-            put(number(r), false);
+            put(desk::number(r), false);
             put(carried(r), true);
         }
     }

@@ -1,4 +1,5 @@
 // The desk (document 01): every call takes it by value and hands it back.
+mod numbers;
 mod parts;
 mod ports;
 mod questions;
@@ -11,6 +12,7 @@ use gate::RunRow;
 use meaning::Refusal;
 use meaning::Slot;
 use meaning::Stream;
+pub use numbers::number;
 pub use parts::with_stairs;
 pub use ports::bare;
 pub use ports::hold_port;

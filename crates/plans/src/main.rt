@@ -5,7 +5,6 @@ ghost use lib.ListN.{length};
 ghost use Rattle.desk.specs.Desks.{Fit};
 use desk::Desk;
 use libc::STDOUT_FILENO;
-use meaning::Refusal;
 use plan::ReadAnswer;
 use plan::WriteAnswer;
 
@@ -13,26 +12,6 @@ use plan::WriteAnswer;
 const LONGEST: usize = 8_192;
 
 const ROOM: usize = 1_700;
-
-// Document 01's number of a refusal.
-fn number(r: Refusal) -> u64 {
-    match r {
-        Refusal::CutShort => 1,
-        Refusal::UnknownTag => 2,
-        Refusal::WrongLength => 3,
-        Refusal::OutOfTurn => 4,
-        Refusal::OutOfRange => 5,
-        Refusal::Overlap => 6,
-        Refusal::Full => 7,
-        Refusal::IdHeld => 8,
-        Refusal::NotHeld => 9,
-        Refusal::NoFreeCell => 10,
-        Refusal::NoRoom => 11,
-        Refusal::Endless => 12,
-        Refusal::Late { bound } => 13,
-        Refusal::OverHorizon => 14,
-    }
-}
 
 // Two numbers, each behind a blank.
 fn put(a: u64, b: u64) {
@@ -45,7 +24,7 @@ fn put(a: u64, b: u64) {
 fn put_read(a: ReadAnswer) {
     match a {
         ReadAnswer::Read => put(0, 0),
-        ReadAnswer::Refused { why, place } => put(number(why), place as u64),
+        ReadAnswer::Refused { why, place } => put(desk::number(why), place as u64),
     }
 }
 
@@ -57,7 +36,7 @@ fn put_written(a: WriteAnswer) -> usize {
             n
         }
         WriteAnswer::Refused(why) => {
-            put(number(why), 0);
+            put(desk::number(why), 0);
             0
         }
     }

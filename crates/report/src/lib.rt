@@ -15,7 +15,6 @@ mod lines;
 mod texts;
 
 use desk::Desk;
-use lines::number;
 use lines::put_blocked;
 use lines::put_refusal;
 use lines::put_stair;
@@ -89,7 +88,7 @@ pub fn put_refused(out: &mut [u8], why: Refusal, place: usize) -> usize
     requires { ⌜ 64 ≤ length (now out) ⌝ }
     ensures { λ r. ⌜ Wrote (printed (refusedAt why place)) r (now (out .entry)) (now (out .exit)) ⌝ }
 {
-    put_refusal(out, number(why), place)
+    put_refusal(out, desk::number(why), place)
 }
 
 // Room for the longest text, which has 28,543 octets.

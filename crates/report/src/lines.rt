@@ -3,7 +3,6 @@ ghost use mathlib.Core.Path.{_≡_};
 ghost use mathlib.Core.List.{_++_};
 ghost use Prim.Native.Nat.{_+_, _≤_};
 ghost use lib.ListN.{length};
-ghost use Rattle.meaning.specs.Refusals.{numberOf};
 ghost use Rattle.meaning.specs.Findings.{decimal, told, blockedLine, stairLine, refusedLine};
 ghost use Rattle.report.specs.Texts.{Wrote, figureWords, figureLine};
 use crate::texts::put_told;
@@ -67,28 +66,6 @@ pub fn put_stream(out: &mut [u8], id: u32, figure: Figure, deadline: u32) -> usi
     let mut at = put_told(out, b"stream ", id as u64);
     at += put_verdict(&mut out[at..], figure, deadline);
     at + put_word(&mut out[at..], b"\n")
-}
-
-// Document 01's number of a refusal.
-pub fn number(why: Refusal) -> u64
-    ensures { λ r. ⌜ r ≡ numberOf why ⌝ }
-{
-    match why {
-        Refusal::CutShort => 1,
-        Refusal::UnknownTag => 2,
-        Refusal::WrongLength => 3,
-        Refusal::OutOfTurn => 4,
-        Refusal::OutOfRange => 5,
-        Refusal::Overlap => 6,
-        Refusal::Full => 7,
-        Refusal::IdHeld => 8,
-        Refusal::NotHeld => 9,
-        Refusal::NoFreeCell => 10,
-        Refusal::NoRoom => 11,
-        Refusal::Endless => 12,
-        Refusal::Late { bound } => 13,
-        Refusal::OverHorizon => 14,
-    }
 }
 
 // A refused plan's line: number, place.

@@ -1,10 +1,10 @@
--- `report::lines::number` meets its contract: one number for each refusal.
+-- `desk::numbers::number` meets its contract: one number for each refusal.
 -- Assumes nothing.
 use mathlib.Core.Path.{sym, ap}
 use borrow.Author.Needs.{needs}
 use Rattle.meaning.specs.Refusals.{numberOf}
-use Rattle.report.proofs.lines.number.Statement.{statement}
-use Rattle.report.proofs.lines.number.Tie as tie
+use Rattle.desk.proofs.numbers.number.Statement.{statement}
+use Rattle.desk.proofs.numbers.number.Tie as tie
 
 enum-told : tie.Need-enum-told
 enum-told c = search needs

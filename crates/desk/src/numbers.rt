@@ -1,0 +1,26 @@
+// Document 01's numbers of the refusals ("What is refused").
+ghost use mathlib.Core.Path.{_≡_};
+ghost use Rattle.meaning.specs.Refusals.{numberOf};
+use meaning::Refusal;
+
+// Document 01's number of a refusal.
+pub fn number(why: Refusal) -> u64
+    ensures { λ r. ⌜ r ≡ numberOf why ⌝ }
+{
+    match why {
+        Refusal::CutShort => 1,
+        Refusal::UnknownTag => 2,
+        Refusal::WrongLength => 3,
+        Refusal::OutOfTurn => 4,
+        Refusal::OutOfRange => 5,
+        Refusal::Overlap => 6,
+        Refusal::Full => 7,
+        Refusal::IdHeld => 8,
+        Refusal::NotHeld => 9,
+        Refusal::NoFreeCell => 10,
+        Refusal::NoRoom => 11,
+        Refusal::Endless => 12,
+        Refusal::Late { bound } => 13,
+        Refusal::OverHorizon => 14,
+    }
+}
