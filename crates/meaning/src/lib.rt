@@ -16,12 +16,14 @@ pub struct Gate {
 }
 
 // A scheduled slot, from its start up to, not including, its end.
+#[repr(C)]
 pub struct Slot {
     pub start: u32,
     pub end: u32,
 }
 
 // An unscheduled stream.
+#[repr(C)]
 pub struct Stream {
     pub id: u32,
     pub priority: u32,
@@ -32,6 +34,7 @@ pub struct Stream {
 }
 
 // A blocked run: the cell it starts at, and its length.
+#[repr(C)]
 pub struct Run {
     pub start: u32,
     pub len: u32,

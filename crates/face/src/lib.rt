@@ -1,0 +1,60 @@
+// The desk for programs in Rust and C: every call of document 01 with plain numbers in and out, and the desk by value.
+mod edits;
+mod numbers;
+mod plans;
+mod questions;
+
+use desk::Desk;
+use meaning::Run;
+
+// In every reply `number` is document 01's number of the refusal, and 0 where the call is accepted. The other numbers are 0
+// where there is nothing to tell.
+
+#[repr(C)]
+pub struct Edited {
+    pub number: u64,
+    pub desk: Desk,
+}
+
+// The value asked for; the bound of a late stream.
+#[repr(C)]
+pub struct Figured {
+    pub number: u64,
+    pub value: u64,
+    pub desk: Desk,
+}
+
+// The first `count` runs, by rising start.
+#[repr(C)]
+pub struct RunsTold {
+    pub number: u64,
+    pub count: usize,
+    pub runs: [Run; 32],
+    pub desk: Desk,
+}
+
+// The first `count` distances and totals, by rising distance.
+#[repr(C)]
+pub struct StairsTold {
+    pub number: u64,
+    pub count: usize,
+    pub far: [u32; 993],
+    pub tot: [u32; 993],
+    pub desk: Desk,
+}
+
+// The place of a refused field's first octet.
+#[repr(C)]
+pub struct PlanRead {
+    pub number: u64,
+    pub place: usize,
+    pub desk: Desk,
+}
+
+// How many octets were written.
+#[repr(C)]
+pub struct PlanWritten {
+    pub number: u64,
+    pub count: usize,
+    pub desk: Desk,
+}

@@ -1,0 +1,114 @@
+// Answers as numbers: document 01's number of a refusal, 0 where there is none, and the values beside it.
+ghost use mathlib.Core.Path.{_≡_};
+ghost use Rattle.meaning.specs.Refusals.{numberOf, valuesOf};
+ghost use Rattle.desk.specs.Desks.{verdictNumber, figureNumber, figureValues};
+ghost use Rattle.plan.specs.Reading.{readNumber, readPlaces};
+ghost use Rattle.plan.specs.Writing.{writeNumber, writeCounts};
+ghost use Rattle.face.specs.Told.{theOne};
+use desk::Figure;
+use desk::Verdict;
+use meaning::Refusal;
+use plan::ReadAnswer;
+use plan::WriteAnswer;
+
+// Document 01's number of a refusal.
+pub fn number(why: Refusal) -> u64
+    ensures { λ r. ⌜ r ≡ numberOf why ⌝ }
+{
+    match why {
+        Refusal::CutShort => 1,
+        Refusal::UnknownTag => 2,
+        Refusal::WrongLength => 3,
+        Refusal::OutOfTurn => 4,
+        Refusal::OutOfRange => 5,
+        Refusal::Overlap => 6,
+        Refusal::Full => 7,
+        Refusal::IdHeld => 8,
+        Refusal::NotHeld => 9,
+        Refusal::NoFreeCell => 10,
+        Refusal::NoRoom => 11,
+        Refusal::Endless => 12,
+        Refusal::Late { bound } => 13,
+        Refusal::OverHorizon => 14,
+    }
+}
+
+// The bound that goes with a refusal: a late stream's.
+fn bound_of(why: Refusal) -> u64
+    ensures { λ r. ⌜ r ≡ theOne (valuesOf why) ⌝ }
+{
+    match why {
+        Refusal::Late { bound } => bound as u64,
+        _ => 0,
+    }
+}
+
+// The number of the answer to an edit, or to a question for rows.
+pub fn verdict_number(answer: Verdict) -> u64
+    ensures { λ r. ⌜ r ≡ verdictNumber answer ⌝ }
+{
+    match answer {
+        Verdict::Accepted => 0,
+        Verdict::Refused(why) => number(why),
+    }
+}
+
+// The number of the answer to a question for a figure.
+pub fn figure_number(answer: Figure) -> u64
+    ensures { λ r. ⌜ r ≡ figureNumber answer ⌝ }
+{
+    match answer {
+        Figure::Is(x) => 0,
+        Figure::Refused(why) => number(why),
+    }
+}
+
+// The figure asked for, or the bound of a late stream.
+pub fn figure_value(answer: Figure) -> u64
+    ensures { λ r. ⌜ r ≡ theOne (figureValues answer) ⌝ }
+{
+    match answer {
+        Figure::Is(x) => x,
+        Figure::Refused(why) => bound_of(why),
+    }
+}
+
+// The number of a reader's answer.
+pub fn read_number(answer: ReadAnswer) -> u64
+    ensures { λ r. ⌜ r ≡ readNumber answer ⌝ }
+{
+    match answer {
+        ReadAnswer::Read => 0,
+        ReadAnswer::Refused { why, place } => number(why),
+    }
+}
+
+// The place of the field that a reader refused.
+pub fn read_place(answer: ReadAnswer) -> usize
+    ensures { λ r. ⌜ r ≡ theOne (readPlaces answer) ⌝ }
+{
+    match answer {
+        ReadAnswer::Read => 0,
+        ReadAnswer::Refused { why, place } => place,
+    }
+}
+
+// The number of a writer's answer.
+pub fn write_number(answer: WriteAnswer) -> u64
+    ensures { λ r. ⌜ r ≡ writeNumber answer ⌝ }
+{
+    match answer {
+        WriteAnswer::Wrote(n) => 0,
+        WriteAnswer::Refused(why) => number(why),
+    }
+}
+
+// How many octets a writer wrote.
+pub fn write_count(answer: WriteAnswer) -> usize
+    ensures { λ r. ⌜ r ≡ theOne (writeCounts answer) ⌝ }
+{
+    match answer {
+        WriteAnswer::Wrote(n) => n,
+        WriteAnswer::Refused(why) => 0,
+    }
+}

@@ -1,0 +1,62 @@
+// Reading and writing a whole plan, for programs in Rust and C.
+ghost use mathlib.Core.Path.{_≡_};
+ghost use Rattle.meaning.specs.Desks.{asked};
+ghost use Rattle.meaning.specs.Bytes.{readPlan, writePlan, written, roomAfter};
+ghost use Rattle.desk.specs.Desks.{held, Fit};
+ghost use Rattle.plan.specs.Reading.{readReply};
+ghost use Rattle.plan.specs.Writing.{writeReply};
+ghost use Rattle.face.specs.Told.{numberedRead, numberedWrite};
+use crate::PlanRead;
+use crate::PlanWritten;
+use crate::numbers::read_number;
+use crate::numbers::read_place;
+use crate::numbers::write_count;
+use crate::numbers::write_number;
+use desk::Desk;
+use plan::ReadReply;
+use plan::WriteReply;
+
+// The reply of the reader, with its answer as two numbers.
+fn told_read(reply: ReadReply) -> PlanRead
+    ensures { λ r. ⌜ r ≡ numberedRead reply ⌝ }
+{
+    let answer = reply.answer;
+    let d = reply.desk;
+    PlanRead {
+        number: read_number(answer),
+        place: read_place(answer),
+        desk: d,
+    }
+}
+
+// The reply of the writer, with its answer as two numbers.
+fn told_write(reply: WriteReply) -> PlanWritten
+    ensures { λ r. ⌜ r ≡ numberedWrite reply ⌝ }
+{
+    let answer = reply.answer;
+    let d = reply.desk;
+    PlanWritten {
+        number: write_number(answer),
+        count: write_count(answer),
+        desk: d,
+    }
+}
+
+// The desk of a plan; or why it is refused, where, and the bare desk.
+#[no_mangle]
+pub extern "C" fn desk_read(plan: &[u8]) -> PlanRead
+    ensures { λ r. ⌜ (r ≡ numberedRead (readReply (readPlan (now (plan .entry))))) × Fit (r .desk) ⌝ }
+{
+    told_read(plan::read(plan))
+}
+
+// The plan of a desk, written at the front of the caller's room.
+#[no_mangle]
+pub extern "C" fn desk_write(d: Desk, room: &mut [u8]) -> PlanWritten
+    requires { ⌜ Fit d ⌝ }
+    ensures { λ r. ⌜ (r ≡ numberedWrite (writeReply (asked (held d) (written (writePlan (now (room .entry)) (held d))))))
+        × (now (room .exit) ≡ roomAfter (now (room .entry)) (writePlan (now (room .entry)) (held d)))
+        × Fit (r .desk) ⌝ }
+{
+    told_write(plan::write(d, room))
+}
