@@ -1,22 +1,22 @@
+-- `face::edits::desk_add_stream` meets its contract.
+-- Assumes nothing.
+use mathlib.Core.Path.{ap, _∙_}
 use borrow.Author.Needs.{needs}
+use Rattle.face.specs.Told.{numbered}
 use Rattle.face.proofs.edits.desk_add_stream.Statement.{statement}
 use Rattle.face.proofs.edits.desk_add_stream.Tie as tie
-use Rattle.face.proofs.edits.desk_add_stream.Reads as reads
-use Rattle.face.proofs.edits.desk_add_stream.Lts as lts
-use Rattle.desk.proofs.add_stream.Reads as add-stream-reads
-use Rattle.face.proofs.edits.told_edit.Reads as told-edit-reads
 
--- src/edits.rt:93:15
 add-stream-requires : tie.Need-add-stream-requires
-add-stream-requires c κs = search needs
+add-stream-requires c κs = c .pre
 
--- src/edits.rt:93:5
 told-edit-requires : tie.Need-told-edit-requires
 told-edit-requires c κs = search needs
 
--- src/edits.rt:70:1
 returns : tie.Need-returns
-returns c = search needs
+returns c =
+    let (same, fit) = c .before .add-stream .ensures in
+    let told = c .told-edit .ensures in
+    (told ∙ ap numbered same, rw told fit)
 
 pub desk-add-stream-spec : {M : Type 1} → statement M
 desk-add-stream-spec = tie.close (tie.spec add-stream-requires told-edit-requires returns)

@@ -1,22 +1,22 @@
+-- `face::edits::desk_remove_slot` meets its contract.
+-- Assumes nothing.
+use mathlib.Core.Path.{ap, _∙_}
 use borrow.Author.Needs.{needs}
+use Rattle.face.specs.Told.{numbered}
 use Rattle.face.proofs.edits.desk_remove_slot.Statement.{statement}
 use Rattle.face.proofs.edits.desk_remove_slot.Tie as tie
-use Rattle.face.proofs.edits.desk_remove_slot.Reads as reads
-use Rattle.face.proofs.edits.desk_remove_slot.Lts as lts
-use Rattle.desk.proofs.remove_slot.Reads as remove-slot-reads
-use Rattle.face.proofs.edits.told_edit.Reads as told-edit-reads
 
--- src/edits.rt:66:15
 remove-slot-requires : tie.Need-remove-slot-requires
-remove-slot-requires c κs = search needs
+remove-slot-requires c κs = c .pre
 
--- src/edits.rt:66:5
 told-edit-requires : tie.Need-told-edit-requires
 told-edit-requires c κs = search needs
 
--- src/edits.rt:61:1
 returns : tie.Need-returns
-returns c = search needs
+returns c =
+    let (same, fit) = c .before .remove-slot .ensures in
+    let told = c .told-edit .ensures in
+    (told ∙ ap numbered same, rw told fit)
 
 pub desk-remove-slot-spec : {M : Type 1} → statement M
 desk-remove-slot-spec = tie.close (tie.spec remove-slot-requires told-edit-requires returns)

@@ -1,29 +1,28 @@
+-- `face::numbers::figure_value` meets its contract.
+-- Assumes nothing.
+use mathlib.Core.Path.{sym, ap, _∙_}
 use borrow.Author.Needs.{needs}
+use Rattle.desk.specs.Desks.{figureValues}
+use Rattle.face.specs.Told.{theOne}
 use Rattle.face.proofs.numbers.figure_value.Statement.{statement}
 use Rattle.face.proofs.numbers.figure_value.Tie as tie
-use Rattle.face.proofs.numbers.figure_value.Reads as reads
-use Rattle.face.proofs.numbers.figure_value.Lts as lts
-use Rattle.face.proofs.numbers.bound_of.Reads as bound-of-reads
 
--- src/numbers.rt:71:20
 enum-known-answer : tie.Need-enum-known-answer
 enum-known-answer c = search needs
 
--- src/numbers.rt:72:25
 enum-known-answer-2 : tie.Need-enum-known-answer-2
 enum-known-answer-2 c = search needs
 
--- src/numbers.rt:72:33
 bound-of-requires : tie.Need-bound-of-requires
 bound-of-requires c κs = search needs
 
--- src/numbers.rt:67:1
 returns : tie.Need-returns
-returns c = search needs
+unfolding theOne figureValues
+returns c = sym (ap (λ a. theOne (figureValues a)) (c .before .answer .given .1))
 
--- src/numbers.rt:67:1
 returns-2 : tie.Need-returns-2
-returns-2 c = search needs
+unfolding theOne figureValues
+returns-2 c = c .bound-of .ensures ∙ sym (ap (λ a. theOne (figureValues a)) (c .before .before .answer2 .given .1))
 
 pub figure-value-spec : {M : Type 1} → statement M
 figure-value-spec =

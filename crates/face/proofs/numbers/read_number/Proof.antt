@@ -1,29 +1,27 @@
+-- `face::numbers::read_number` meets its contract.
+-- Assumes nothing.
+use mathlib.Core.Path.{sym, ap, _∙_}
 use borrow.Author.Needs.{needs}
+use Rattle.plan.specs.Reading.{readNumber}
 use Rattle.face.proofs.numbers.read_number.Statement.{statement}
 use Rattle.face.proofs.numbers.read_number.Tie as tie
-use Rattle.face.proofs.numbers.read_number.Reads as reads
-use Rattle.face.proofs.numbers.read_number.Lts as lts
-use Rattle.face.proofs.numbers.number.Reads as number-reads
 
--- src/numbers.rt:81:29
 enum-told : tie.Need-enum-told
 enum-told c = search needs
 
--- src/numbers.rt:82:31
 enum-known-answer : tie.Need-enum-known-answer
 enum-known-answer c = search needs
 
--- src/numbers.rt:82:47
 number-requires : tie.Need-number-requires
 number-requires c κs = search needs
 
--- src/numbers.rt:77:1
 returns : tie.Need-returns
-returns c = search needs
+unfolding readNumber
+returns c = sym (ap readNumber (c .enum-told .given .1))
 
--- src/numbers.rt:77:1
 returns-2 : tie.Need-returns-2
-returns-2 c = search needs
+unfolding readNumber
+returns-2 c = c .number .ensures ∙ sym (ap readNumber (c .before .before .answer .given .1))
 
 pub read-number-spec : {M : Type 1} → statement M
 read-number-spec =

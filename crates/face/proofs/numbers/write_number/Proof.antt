@@ -1,29 +1,27 @@
+-- `face::numbers::write_number` meets its contract.
+-- Assumes nothing.
+use mathlib.Core.Path.{sym, ap, _∙_}
 use borrow.Author.Needs.{needs}
+use Rattle.plan.specs.Writing.{writeNumber}
 use Rattle.face.proofs.numbers.write_number.Statement.{statement}
 use Rattle.face.proofs.numbers.write_number.Tie as tie
-use Rattle.face.proofs.numbers.write_number.Reads as reads
-use Rattle.face.proofs.numbers.write_number.Lts as lts
-use Rattle.face.proofs.numbers.number.Reads as number-reads
 
--- src/numbers.rt:101:28
 enum-known-answer : tie.Need-enum-known-answer
 enum-known-answer c = search needs
 
--- src/numbers.rt:102:30
 enum-known-answer-2 : tie.Need-enum-known-answer-2
 enum-known-answer-2 c = search needs
 
--- src/numbers.rt:102:38
 number-requires : tie.Need-number-requires
 number-requires c κs = search needs
 
--- src/numbers.rt:97:1
 returns : tie.Need-returns
-returns c = search needs
+unfolding writeNumber
+returns c = sym (ap writeNumber (c .before .answer .given .1))
 
--- src/numbers.rt:97:1
 returns-2 : tie.Need-returns-2
-returns-2 c = search needs
+unfolding writeNumber
+returns-2 c = c .number .ensures ∙ sym (ap writeNumber (c .before .before .answer2 .given .1))
 
 pub write-number-spec : {M : Type 1} → statement M
 write-number-spec =

@@ -1,26 +1,25 @@
+-- `face::plans::desk_write` meets its contract.
+-- Assumes nothing.
+use mathlib.Core.Path.{ap, _∙_}
 use borrow.Author.Needs.{needs}
+use Rattle.face.specs.Told.{numberedWrite}
 use Rattle.face.proofs.plans.desk_write.Statement.{statement}
 use Rattle.face.proofs.plans.desk_write.Tie as tie
-use Rattle.face.proofs.plans.desk_write.Reads as reads
-use Rattle.face.proofs.plans.desk_write.Lts as lts
-use Rattle.face.proofs.plans.told_write.Reads as told-write-reads
-use Rattle.plan.proofs.write.Reads as write-reads
 
--- src/plans.rt:61:16
 write-requires : tie.Need-write-requires
-write-requires c κs = search needs
+write-requires c κs = c .before .before .pre
 
--- src/plans.rt:61:5
 told-write-requires : tie.Need-told-write-requires
 told-write-requires c κs = search needs
 
--- src/plans.rt:54:1
 same-length : tie.Need-same-length
 same-length c = search needs
 
--- src/plans.rt:54:1
 returns : tie.Need-returns
-returns c = search needs
+returns c =
+    let (same, room, fit) = c .before .before .before .write .ensures in
+    let told = c .told-write .ensures in
+    (told ∙ ap numberedWrite same, room, rw told fit)
 
 pub desk-write-spec : {M : Type 1} → statement M
 desk-write-spec = tie.close (tie.spec write-requires told-write-requires same-length returns)

@@ -1,22 +1,22 @@
+-- `face::questions::desk_runs` meets its contract.
+-- Assumes nothing.
+use mathlib.Core.Path.{ap, _∙_}
 use borrow.Author.Needs.{needs}
+use Rattle.face.specs.Told.{numberedRuns}
 use Rattle.face.proofs.questions.desk_runs.Statement.{statement}
 use Rattle.face.proofs.questions.desk_runs.Tie as tie
-use Rattle.face.proofs.questions.desk_runs.Reads as reads
-use Rattle.face.proofs.questions.desk_runs.Lts as lts
-use Rattle.desk.proofs.runs.Reads as runs-reads
-use Rattle.face.proofs.questions.told_runs.Reads as told-runs-reads
 
--- src/questions.rt:71:15
 runs-requires : tie.Need-runs-requires
-runs-requires c κs = search needs
+runs-requires c κs = c .pre
 
--- src/questions.rt:71:5
 told-runs-requires : tie.Need-told-runs-requires
 told-runs-requires c κs = search needs
 
--- src/questions.rt:66:1
 returns : tie.Need-returns
-returns c = search needs
+returns c =
+    let (same, fit) = c .before .runs .ensures in
+    let told = c .told-runs .ensures in
+    (told ∙ ap numberedRuns same, rw told fit)
 
 pub desk-runs-spec : {M : Type 1} → statement M
 desk-runs-spec = tie.close (tie.spec runs-requires told-runs-requires returns)

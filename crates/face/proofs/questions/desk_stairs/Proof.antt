@@ -1,22 +1,22 @@
+-- `face::questions::desk_stairs` meets its contract.
+-- Assumes nothing.
+use mathlib.Core.Path.{ap, _∙_}
 use borrow.Author.Needs.{needs}
+use Rattle.face.specs.Told.{numberedStairs}
 use Rattle.face.proofs.questions.desk_stairs.Statement.{statement}
 use Rattle.face.proofs.questions.desk_stairs.Tie as tie
-use Rattle.face.proofs.questions.desk_stairs.Reads as reads
-use Rattle.face.proofs.questions.desk_stairs.Lts as lts
-use Rattle.desk.proofs.stairs.Reads as stairs-reads
-use Rattle.face.proofs.questions.told_stairs.Reads as told-stairs-reads
 
--- src/questions.rt:80:17
 stairs-requires : tie.Need-stairs-requires
-stairs-requires c κs = search needs
+stairs-requires c κs = c .pre
 
--- src/questions.rt:80:5
 told-stairs-requires : tie.Need-told-stairs-requires
 told-stairs-requires c κs = search needs
 
--- src/questions.rt:75:1
 returns : tie.Need-returns
-returns c = search needs
+returns c =
+    let (same, fit) = c .before .stairs .ensures in
+    let told = c .told-stairs .ensures in
+    (told ∙ ap numberedStairs same, rw told fit)
 
 pub desk-stairs-spec : {M : Type 1} → statement M
 desk-stairs-spec = tie.close (tie.spec stairs-requires told-stairs-requires returns)
