@@ -35,7 +35,8 @@ pub extern "C" fn desk_bare() -> Desk
 #[no_mangle]
 pub extern "C" fn desk_open_port(d: Desk, rate: u64, cycle: u64, guard: u64, header: u64) -> Edited
     requires { ⌜ Fit d ⌝ }
-    ensures { λ r. ⌜ (r ≡ numbered (editReply (edited (held d) (openPort (portFrom rate cycle guard header) (held d)))))
+    ensures { λ r. ⌜ (r ≡ numbered (editReply (edited (held d)
+        (openPort (portFrom rate cycle guard header) (held d)))))
         × Fit (r .desk) ⌝ }
 {
     let p = PortNumbers {

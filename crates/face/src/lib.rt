@@ -7,8 +7,8 @@ mod questions;
 use desk::Desk;
 use meaning::Run;
 
-// In every reply `number` is document 01's number of the refusal, and 0 where the call is accepted. The other numbers are 0
-// where there is nothing to tell.
+// In every reply `number` is document 01's number of the refusal, and 0 where the call is accepted. The other numbers
+// are 0 where there is nothing to tell.
 
 #[repr(C)]
 pub struct Edited {

@@ -54,7 +54,8 @@ pub extern "C" fn desk_read(plan: &[u8]) -> PlanRead
 #[no_mangle]
 pub extern "C" fn desk_write(d: Desk, room: &mut [u8]) -> PlanWritten
     requires { ⌜ Fit d ⌝ }
-    ensures { λ r. ⌜ (r ≡ numberedWrite (writeReply (asked (held d) (written (writePlan (now (room .entry)) (held d))))))
+    ensures { λ r. ⌜ (r ≡ numberedWrite (writeReply (asked (held d)
+        (written (writePlan (now (room .entry)) (held d))))))
         × (now (room .exit) ≡ roomAfter (now (room .entry)) (writePlan (now (room .entry)) (held d)))
         × Fit (r .desk) ⌝ }
 {

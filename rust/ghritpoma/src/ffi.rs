@@ -1,9 +1,9 @@
 //! The border to the proved core: the only `unsafe` of this crate.
 //!
-//! The structs are those of `crates/face/src/lib.rt` and what they hold (`desk`'s `Desk`, `meaning`'s `Slot`, `Stream`
-//! and `Run`), field by field in the same order. They are `#[repr(C)]` on both sides, so both lay them out by C's rule;
-//! `layout` below holds the sizes and the offsets that this rule gives. Rattle's `u32`, `u64`, `usize` and `bool` are
-//! Rust's. A `&[u8]` is a pointer and a length, each a parameter of its own.
+//! The structs are those of `crates/face/src/lib.rt` and what they hold (`desk`'s `Desk`, `meaning`'s `Slot`,
+//! `Stream` and `Run`), field by field in the same order. They are `#[repr(C)]` on both sides, so both lay them out by
+//! C's rule; `layout` below holds the sizes and the offsets that this rule gives. Rattle's `u32`, `u64`, `usize` and
+//! `bool` are Rust's. A `&[u8]` is a pointer and a length, each a parameter of its own.
 //!
 //! Every call is proved for whatever numbers and octets it is handed. All it requires is a fit desk. `bare` and every
 //! other call are proved to hand back a fit desk, and nothing else makes one: the fields are private to this module.
@@ -122,7 +122,7 @@ pub struct PlanWritten {
     desk: Desk,
 }
 
-/// The calls of `crates/face/src`, each `#[no_mangle] pub extern "C"` there, with the same parameters in the same order.
+/// The calls of `crates/face/src`, `#[no_mangle] pub extern "C"` there, with the same parameters in the same order.
 mod core {
     use super::{Desk, Edited, Figured, PlanRead, PlanWritten, RunsTold, StairsTold};
 
@@ -160,12 +160,12 @@ pub use core::{
 };
 
 pub fn desk_read(plan: &[u8]) -> PlanRead {
-    // SAFETY: pointer and length are one slice's, which is lent for the length of the call.
+    // SAFETY: pointer and length are one slice's, which is lent to the call while it runs.
     unsafe { core::desk_read(plan.as_ptr(), plan.len()) }
 }
 
 pub fn desk_write(d: Desk, room: &mut [u8]) -> PlanWritten {
-    // SAFETY: pointer and length are one slice's, which is lent for the length of the call to it alone; the desk is fit.
+    // SAFETY: pointer and length are one slice's, which is lent to the call alone while it runs; the desk is fit.
     unsafe { core::desk_write(d, room.as_mut_ptr(), room.len()) }
 }
 

@@ -53,11 +53,11 @@ use std::fmt;
 /// The most octets that a plan can have: room that [`Desk::write`] never finds too short.
 pub const MOST_OCTETS: usize = 1_648;
 
-/// A desk, bare or with its port open. Two desks are equal where document 01 calls them the same: the order of entry and
-/// places freed by removal don't show.
+/// A desk, bare or with its port open. Two desks are equal where document 01 calls them the same: the order of entry
+/// and places freed by removal don't show.
 ///
-/// A desk comes from [`Desk::bare`] or [`Desk::read`] and is changed by its edits alone. An edit that is refused leaves it
-/// as it was.
+/// A desk comes from [`Desk::bare`] or [`Desk::read`] and is changed by its edits alone. An edit that is refused
+/// leaves it as it was.
 #[derive(Clone, PartialEq, Eq)]
 pub struct Desk(ffi::Desk);
 
