@@ -28,7 +28,7 @@ pub struct Figured {
 #[repr(C)]
 pub struct RunsTold {
     pub number: u64,
-    pub count: usize,
+    pub count: u64,
     pub runs: [Run; 32],
     pub desk: Desk,
 }
@@ -37,7 +37,7 @@ pub struct RunsTold {
 #[repr(C)]
 pub struct StairsTold {
     pub number: u64,
-    pub count: usize,
+    pub count: u64,
     pub far: [u32; 993],
     pub tot: [u32; 993],
     pub desk: Desk,
@@ -47,7 +47,7 @@ pub struct StairsTold {
 #[repr(C)]
 pub struct PlanRead {
     pub number: u64,
-    pub place: usize,
+    pub place: u64,
     pub desk: Desk,
 }
 
@@ -55,6 +55,6 @@ pub struct PlanRead {
 #[repr(C)]
 pub struct PlanWritten {
     pub number: u64,
-    pub count: usize,
+    pub count: u64,
     pub desk: Desk,
 }

@@ -34,11 +34,11 @@ pub fn number(why: Refusal) -> u64
 }
 
 // The bound that goes with a refusal: a late stream's.
-fn bound_of(why: Refusal) -> u64
+fn bound_of(why: Refusal) -> u32
     ensures { λ r. ⌜ r ≡ theOne (valuesOf why) ⌝ }
 {
     match why {
-        Refusal::Late { bound } => bound as u64,
+        Refusal::Late { bound } => bound,
         _ => 0,
     }
 }
@@ -69,7 +69,7 @@ pub fn figure_value(answer: Figure) -> u64
 {
     match answer {
         Figure::Is(x) => x,
-        Figure::Refused(why) => bound_of(why),
+        Figure::Refused(why) => bound_of(why) as u64,
     }
 }
 
@@ -84,12 +84,12 @@ pub fn read_number(answer: ReadAnswer) -> u64
 }
 
 // The place of the field that a reader refused.
-pub fn read_place(answer: ReadAnswer) -> usize
+pub fn read_place(answer: ReadAnswer) -> u64
     ensures { λ r. ⌜ r ≡ theOne (readPlaces answer) ⌝ }
 {
     match answer {
         ReadAnswer::Read => 0,
-        ReadAnswer::Refused { why, place } => place,
+        ReadAnswer::Refused { why, place } => place as u64,
     }
 }
 
@@ -104,11 +104,11 @@ pub fn write_number(answer: WriteAnswer) -> u64
 }
 
 // How many octets a writer wrote.
-pub fn write_count(answer: WriteAnswer) -> usize
+pub fn write_count(answer: WriteAnswer) -> u64
     ensures { λ r. ⌜ r ≡ theOne (writeCounts answer) ⌝ }
 {
     match answer {
-        WriteAnswer::Wrote(n) => n,
+        WriteAnswer::Wrote(n) => n as u64,
         WriteAnswer::Refused(why) => 0,
     }
 }

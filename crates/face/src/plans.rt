@@ -22,9 +22,11 @@ fn told_read(reply: ReadReply) -> PlanRead
 {
     let answer = reply.answer;
     let d = reply.desk;
+    let number = read_number(answer);
+    let place = read_place(answer);
     PlanRead {
-        number: read_number(answer),
-        place: read_place(answer),
+        number,
+        place,
         desk: d,
     }
 }
@@ -35,9 +37,11 @@ fn told_write(reply: WriteReply) -> PlanWritten
 {
     let answer = reply.answer;
     let d = reply.desk;
+    let number = write_number(answer);
+    let count = write_count(answer);
     PlanWritten {
-        number: write_number(answer),
-        count: write_count(answer),
+        number,
+        count,
         desk: d,
     }
 }

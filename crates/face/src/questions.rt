@@ -25,7 +25,7 @@ fn told_runs(reply: RunsReply) -> RunsTold
     let d = reply.desk;
     RunsTold {
         number: verdict_number(answer),
-        count: found.n,
+        count: found.n as u64,
         runs,
         desk: d,
     }
@@ -42,7 +42,7 @@ fn told_stairs(reply: StairsReply) -> StairsTold
     let d = reply.desk;
     StairsTold {
         number: verdict_number(answer),
-        count: found.n,
+        count: found.n as u64,
         far,
         tot,
         desk: d,
@@ -55,9 +55,11 @@ fn told_figure(reply: FigureReply) -> Figured
 {
     let answer = reply.figure;
     let d = reply.desk;
+    let number = figure_number(answer);
+    let value = figure_value(answer);
     Figured {
-        number: figure_number(answer),
-        value: figure_value(answer),
+        number,
+        value,
         desk: d,
     }
 }

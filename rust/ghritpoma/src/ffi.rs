@@ -91,7 +91,7 @@ pub struct Figured {
 #[repr(C)]
 pub struct RunsTold {
     pub number: u64,
-    pub count: usize,
+    pub count: u64,
     pub runs: [Run; 32],
     desk: Desk,
 }
@@ -100,7 +100,7 @@ pub struct RunsTold {
 #[repr(C)]
 pub struct StairsTold {
     pub number: u64,
-    pub count: usize,
+    pub count: u64,
     pub far: [u32; 993],
     pub tot: [u32; 993],
     desk: Desk,
@@ -110,7 +110,7 @@ pub struct StairsTold {
 #[repr(C)]
 pub struct PlanRead {
     pub number: u64,
-    pub place: usize,
+    pub place: u64,
     pub desk: Desk,
 }
 
@@ -118,7 +118,7 @@ pub struct PlanRead {
 #[repr(C)]
 pub struct PlanWritten {
     pub number: u64,
-    pub count: usize,
+    pub count: u64,
     desk: Desk,
 }
 

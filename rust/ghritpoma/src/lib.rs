@@ -115,7 +115,7 @@ impl Desk {
     /// The blocked runs, by rising start. Refused: 4.
     pub fn runs(&self) -> Result<Vec<Run>, Refusal> {
         let told = ffi::desk_runs(self.0);
-        let runs = &told.runs[..told.count];
+        let runs = &told.runs[..told.count as usize];
         let runs = runs.iter().map(|r| Run { start: r.start.into(), length: r.len.into() });
         answered(told.number, 0, runs.collect())
     }
@@ -123,7 +123,7 @@ impl Desk {
     /// The stairs, by rising distance. Refused: 4.
     pub fn stairs(&self) -> Result<Vec<Stair>, Refusal> {
         let told = ffi::desk_stairs(self.0);
-        let pairs = told.far.iter().zip(&told.tot).take(told.count);
+        let pairs = told.far.iter().zip(&told.tot).take(told.count as usize);
         let stairs = pairs.map(|(&far, &tot)| Stair { distance: far.into(), total: tot.into() });
         answered(told.number, 0, stairs.collect())
     }
@@ -145,7 +145,7 @@ impl Desk {
         let told = ffi::desk_read(plan);
         match Refusal::told(told.number, 0) {
             None => Ok(Desk(told.desk)),
-            Some(refusal) => Err(RefusedPlan { refusal, place: told.place }),
+            Some(refusal) => Err(RefusedPlan { refusal, place: told.place as usize }),
         }
     }
 
@@ -153,6 +153,6 @@ impl Desk {
     /// their value, and all of them where the call is refused. Refused: 4, 11.
     pub fn write(&self, room: &mut [u8]) -> Result<usize, Refusal> {
         let told = ffi::desk_write(self.0, room);
-        answered(told.number, 0, told.count)
+        answered(told.number, 0, told.count as usize)
     }
 }

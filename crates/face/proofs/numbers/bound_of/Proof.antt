@@ -11,9 +11,6 @@ use Rattle.face.proofs.numbers.bound_of.Tie as tie
 enum-known-why : tie.Need-enum-known-why
 enum-known-why c = search needs
 
-cast-result : tie.Need-cast-result
-cast-result c = search needs
-
 returns : tie.Need-returns
 unfolding theOne valuesOf
 returns c = sym (ap (λ a. theOne (valuesOf a)) (c .before .why .given .1))
@@ -23,4 +20,4 @@ unfolding theOne
 returns-2 c = sym (ap theOne (carries-none (c .before .args .why) (c .match .keys2)))
 
 pub bound-of-spec : {M : Type 1} → statement M
-bound-of-spec = tie.close (tie.spec enum-known-why cast-result returns returns-2)
+bound-of-spec = tie.close (tie.spec enum-known-why returns returns-2)

@@ -16,6 +16,9 @@ enum-known-answer-2 c = search needs
 bound-of-requires : tie.Need-bound-of-requires
 bound-of-requires c κs = search needs
 
+cast-result : tie.Need-cast-result
+cast-result c = search needs
+
 returns : tie.Need-returns
 unfolding theOne figureValues
 returns c = sym (ap (λ a. theOne (figureValues a)) (c .before .answer .given .1))
@@ -26,4 +29,11 @@ returns-2 c = c .bound-of .ensures ∙ sym (ap (λ a. theOne (figureValues a)) (
 
 pub figure-value-spec : {M : Type 1} → statement M
 figure-value-spec =
-    tie.close (tie.spec enum-known-answer enum-known-answer-2 bound-of-requires returns returns-2)
+    tie.close
+    (tie.spec
+    enum-known-answer
+    enum-known-answer-2
+    bound-of-requires
+    cast-result
+    returns
+    returns-2)
