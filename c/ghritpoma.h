@@ -9,8 +9,8 @@
  * made in any other way nothing is proved.
  *
  * Every reply has `number`: 0 where the call is accepted, else document 01's number of the refusal (GHRITPOMA_*
- * below). A refused call hands back the desk that it was handed, and a refused plan comes back with the bare desk. The other
- * numbers are 0 where there is nothing to tell. All times are whole nanoseconds.
+ * below). A refused call hands back the desk that it was handed, and a refused plan comes back with the bare desk. The
+ * other numbers are 0 where there is nothing to tell. All times are whole nanoseconds.
  */
 #ifndef GHRITPOMA_H
 #define GHRITPOMA_H
