@@ -123,7 +123,7 @@ pub struct PlanWritten {
 }
 
 /// The calls of `crates/face/src`, `#[no_mangle] pub extern "C"` there, with the same parameters in the same order.
-mod core {
+mod archive {
     use super::{Desk, Edited, Figured, PlanRead, PlanWritten, RunsTold, StairsTold};
 
     #[link(name = "face", kind = "static")]
@@ -154,19 +154,19 @@ mod core {
     }
 }
 
-pub use core::{
+pub use archive::{
     desk_add_slot, desk_add_stream, desk_bare, desk_interference, desk_open_port, desk_remove_slot,
     desk_remove_stream, desk_response, desk_runs, desk_stairs,
 };
 
 pub fn desk_read(plan: &[u8]) -> PlanRead {
     // SAFETY: pointer and length are one slice's, which is lent to the call while it runs.
-    unsafe { core::desk_read(plan.as_ptr(), plan.len()) }
+    unsafe { archive::desk_read(plan.as_ptr(), plan.len()) }
 }
 
 pub fn desk_write(d: Desk, room: &mut [u8]) -> PlanWritten {
     // SAFETY: pointer and length are one slice's, which is lent to the call alone while it runs; the desk is fit.
-    unsafe { core::desk_write(d, room.as_mut_ptr(), room.len()) }
+    unsafe { archive::desk_write(d, room.as_mut_ptr(), room.len()) }
 }
 
 /// What C's rule gives for each struct on x86-64, and `c/ghritpoma.h` counts on.
