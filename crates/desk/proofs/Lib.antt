@@ -9,5 +9,6 @@ pub mod SlotLaws
 pub mod StreamLaws
 pub mod OpenFits
 pub mod Asking
+pub mod Carried
 pub mod Reaching
 pub mod Responding

@@ -1,6 +1,6 @@
 // Answers as numbers: document 01's number of a refusal, 0 where there is none, and the values beside it.
 ghost use mathlib.Core.Path.{_≡_};
-ghost use Rattle.meaning.specs.Refusals.{numberOf, valuesOf};
+ghost use Rattle.meaning.specs.Refusals.{valuesOf};
 ghost use Rattle.desk.specs.Desks.{verdictNumber, figureNumber, figureValues};
 ghost use Rattle.plan.specs.Reading.{readNumber, readPlaces};
 ghost use Rattle.plan.specs.Writing.{writeNumber, writeCounts};
@@ -10,28 +10,6 @@ use desk::Verdict;
 use meaning::Refusal;
 use plan::ReadAnswer;
 use plan::WriteAnswer;
-
-// Document 01's number of a refusal.
-pub fn number(why: Refusal) -> u64
-    ensures { λ r. ⌜ r ≡ numberOf why ⌝ }
-{
-    match why {
-        Refusal::CutShort => 1,
-        Refusal::UnknownTag => 2,
-        Refusal::WrongLength => 3,
-        Refusal::OutOfTurn => 4,
-        Refusal::OutOfRange => 5,
-        Refusal::Overlap => 6,
-        Refusal::Full => 7,
-        Refusal::IdHeld => 8,
-        Refusal::NotHeld => 9,
-        Refusal::NoFreeCell => 10,
-        Refusal::NoRoom => 11,
-        Refusal::Endless => 12,
-        Refusal::Late { bound } => 13,
-        Refusal::OverHorizon => 14,
-    }
-}
 
 // The bound that goes with a refusal: a late stream's.
 fn bound_of(why: Refusal) -> u32
@@ -49,7 +27,7 @@ pub fn verdict_number(answer: Verdict) -> u64
 {
     match answer {
         Verdict::Accepted => 0,
-        Verdict::Refused(why) => number(why),
+        Verdict::Refused(why) => desk::number(why),
     }
 }
 
@@ -59,7 +37,7 @@ pub fn figure_number(answer: Figure) -> u64
 {
     match answer {
         Figure::Is(x) => 0,
-        Figure::Refused(why) => number(why),
+        Figure::Refused(why) => desk::number(why),
     }
 }
 
@@ -79,7 +57,7 @@ pub fn read_number(answer: ReadAnswer) -> u64
 {
     match answer {
         ReadAnswer::Read => 0,
-        ReadAnswer::Refused { why, place } => number(why),
+        ReadAnswer::Refused { why, place } => desk::number(why),
     }
 }
 
@@ -99,7 +77,7 @@ pub fn write_number(answer: WriteAnswer) -> u64
 {
     match answer {
         WriteAnswer::Wrote(n) => 0,
-        WriteAnswer::Refused(why) => number(why),
+        WriteAnswer::Refused(why) => desk::number(why),
     }
 }
 

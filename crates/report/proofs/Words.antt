@@ -4,41 +4,14 @@ use mathlib.Core.Path.{_≡_, refl, ap, _∙_}
 use mathlib.Core.List.{List, [], _∷_, _++_}
 use Prim.Native.Nat.{ℕ, _+_}
 use native.Mathlib.Omega.{arith}
-use denote.Enum.Declared.{tagOf}
-use types.Run.{OneOf, miss}
 use lib.ListN.{length, length-append}
 use Rattle.meaning.specs.declared.Refusal.{Refusal}
-use Rattle.meaning.specs.declared.Refusal.the-variants.{CutShort, UnknownTag, WrongLength, OutOfTurn, OutOfRange}
-use Rattle.meaning.specs.declared.Refusal.the-variants.{Overlap, Full, IdHeld, NotHeld, NoFreeCell, NoRoom, Endless}
-use Rattle.meaning.specs.declared.Refusal.the-variants.{Late, OverHorizon}
+use Rattle.meaning.specs.declared.Refusal.the-variants.{Late}
 use Rattle.meaning.specs.Refusals.{valuesOf}
 use Rattle.meaning.specs.Findings.{octetsIn, decimal, told}
-use Rattle.meaning.proofs.Refusal.{the-type}
 use Rattle.desk.specs.declared.Figure.{Figure}
 use Rattle.desk.specs.declared.Figure.the-variants as Figures
 use Rattle.report.specs.Texts.{refusalWords, figureWords}
-
--- the tags of all refusals but late
-abbrev pub otherTags : List ℕ
-otherTags = 0 ∷ 1 ∷ 2 ∷ 3 ∷ 4 ∷ 5 ∷ 6 ∷ 7 ∷ 8 ∷ 9 ∷ 10 ∷ 11 ∷ 13 ∷ []
-
--- no other refusal carries a value
-pub carries-none : (why : Refusal) → OneOf otherTags (tagOf the-type why) → valuesOf why ≡ []
-unfolding valuesOf
-carries-none CutShort h = refl
-carries-none UnknownTag h = refl
-carries-none WrongLength h = refl
-carries-none OutOfTurn h = refl
-carries-none OutOfRange h = refl
-carries-none Overlap h = refl
-carries-none Full h = refl
-carries-none IdHeld h = refl
-carries-none NotHeld h = refl
-carries-none NoFreeCell h = refl
-carries-none NoRoom h = refl
-carries-none Endless h = refl
-carries-none (Late b) h = absurd (miss otherTags 12 tt h)
-carries-none OverHorizon h = refl
 
 module _ (deadline : ℕ) (figure : Figure) where
   pub bound-words : (b : ℕ) → figure ≡ Figures.Is b

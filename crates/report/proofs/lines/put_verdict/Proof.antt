@@ -3,7 +3,8 @@
 use native.Mathlib.Omega.{arith}
 use borrow.Author.Needs.{needs}
 use Rattle.meaning.specs.Findings.{octetsIn, told}
-use Rattle.report.proofs.Words.{carries-none, bound-words, late-words, endless-words}
+use Rattle.desk.proofs.Carried.{carries-none}
+use Rattle.report.proofs.Words.{bound-words, late-words, endless-words}
 use Rattle.report.proofs.Words.{bound-length, late-length, endless-length}
 use Rattle.report.proofs.lines.put_verdict.Statement.{statement}
 use Rattle.report.proofs.lines.put_verdict.Tie as tie
