@@ -1,4 +1,5 @@
-// The plain iteration: each step divides once a stream, and all frames are computed, each from the wait of the one before.
+// The plain iteration: each step divides once a stream, and all frames are computed, each from the wait of the one
+// before.
 use crate::plan::{wire_time, Plan, Stairs};
 
 pub const HORIZON: u64 = 100_000_000;

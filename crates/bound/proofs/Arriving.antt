@@ -67,4 +67,5 @@ module _ (x period jitter : ℕ) (soon : x ≤ 100_000_000) (long : 10_000 ≤ p
 
   -- the next instant comes after x, by a period at most
   pub next-near : (x < nextOf (rowStream period jitter) x) × (nextOf (rowStream period jitter) x ≤ x + period)
-  next-near = (next-after (rowStream period jitter) (omega arith) x, next-soon (rowStream period jitter) (omega arith) x)
+  next-near =
+      (next-after (rowStream period jitter) (omega arith) x, next-soon (rowStream period jitter) (omega arith) x)

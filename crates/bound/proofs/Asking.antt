@@ -66,7 +66,8 @@ module _ (rate cycle : ℕ) (far tot : List ℕ) (m : ℕ) (streams : List Strea
   unfolding lowerWire
   lower-few =
       largest-le _ _ 2_000_000
-      (λ j h. wire-fits rate (j .octets) (rest-fits j (keep-mem (λ i. ltb (i .priority) (own .priority)) rest j .0 h .0) .octets-most))
+      (λ j h. wire-fits rate (j .octets) (rest-fits j
+      (keep-mem (λ i. ltb (i .priority) (own .priority)) rest j .0 h .0) .octets-most))
 
   module _ (a : Ahead) (q : a ≡ aheadOf rate own rest) where
     lower-is : a .lower ≡ lowerWire rate own rest

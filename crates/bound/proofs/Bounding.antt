@@ -25,7 +25,8 @@ use Rattle.bound.proofs.RowStreams.{most-own, later-own, busy-rows, cal
 pub zeros-in : (n : ℕ) → n ≤ 64 → RowIn 0 0 (replicate 64 0) n
 zeros-in n h k l = (zero-le, omega (arith, getD-replicate {A = ℕ} 64 k 0 0 (omega arith)))
 
-pub calm-fits : (per jit cost calm : List ℕ) (n : ℕ) → RowsFit per jit cost n → RowIn 0 0 calm n → RowsFit per calm cost n
+pub calm-fits : (per jit cost calm : List ℕ) (n : ℕ) → RowsFit per jit cost n → RowIn 0 0 calm n
+    → RowsFit per calm cost n
 calm-fits per jit cost calm n fit none =
     record {
       few = fit .few;

@@ -66,7 +66,9 @@ module _ (old per cost : List ℕ) (x i : ℕ) (new : List ℕ) (add least s g l
         tally = rw (sum-more i) (omega (arith, p .tally, rw here at eg));
         few = omega (arith, p .few);
         low = set-below (λ k a. l ≤ a) new i s inside (λ k h. le-trans below (p .low k h)) under;
-        high = λ z h low. high z (p .high z h (λ k q. rw (other k q) at (low k (omega arith)))) (rw same at (low i (omega arith)));
+        high =
+            λ z h low. high z (p .high z h (λ k q. rw (other k q) at (low k (omega arith))))
+            (rw same at (low i (omega arith)));
       }
     where
       inside : i < length new
@@ -76,7 +78,9 @@ module _ (old per cost : List ℕ) (x i : ℕ) (new : List ℕ) (add least s g l
       here = p .left i (le-refl i)
 
       same : getD (set new i s) i 0 ≡ s
-      same = set-below (λ k a. k ≡ i → a ≡ s) new i s inside (λ k h e. absurd (omega arith)) (λ e. refl) i (omega arith) refl
+      same =
+          set-below (λ k a. k ≡ i → a ≡ s) new i s inside (λ k h e. absurd (omega arith)) (λ e. refl) i (omega arith)
+          refl
 
       other : (k : ℕ) → k < i → getD (set new i s) k 0 ≡ getD new k 0
       other k h = getD-set-other new i k s 0 (λ e. absurd (omega arith))
@@ -90,7 +94,8 @@ CountedAt per jit cost x i next load least =
     × (load ≡ rowLoad per jit cost i x) × Low next i least × (x < least)
 
 module _ (per jit cost : List ℕ) (x : ℕ) where
-  pub count-starts : (next : List ℕ) (least : ℕ) → length next ≡ 64 → x < least → CountedAt per jit cost x 0 next 0 least
+  pub count-starts : (next : List ℕ) (least : ℕ) → length next ≡ 64 → x < least
+      → CountedAt per jit cost x 0 next 0 least
   unfolding rowLoad sum
   count-starts next least e past = (e, λ k h. absurd (omega arith), refl, λ k h. absurd (omega arith), past)
 

@@ -80,9 +80,11 @@ module _ (o : Own) (fits : OwnFits o) where
 -- k frames are done: best is the largest response of them, and the search for the wait of the next one is at w
 pub record FramesDone (v : ℕ → ℕ) (o : Own) (per jit cost : List ℕ) (n frames k w best : ℕ) : Type 0 where
   pub best-is : (s : BesideIn v o per jit cost n frames)
-      → best ≡ worstOf (s .beside .rate) v (o .lower) (s .beside .rest) (s .beside .own) (s .b) (mostIn (s .beside .own) 0) k
+      → best ≡ worstOf (s .beside .rate) v (o .lower) (s .beside .rest) (s .beside .own) (s .b)
+      (mostIn (s .beside .own) 0) k
   pub under : (s : BesideIn v o per jit cost n frames)
-      → Under (waitLoad (s .beside .rate) v (o .lower) (s .beside .rest) (s .beside .own) (mostIn (s .beside .own) 0 + k)) w
+      → Under (waitLoad (s .beside .rate) v (o .lower) (s .beside .rest) (s .beside .own)
+      (mostIn (s .beside .own) 0 + k)) w
 
 module _ (v : ℕ → ℕ) (v-grows : Mono v) (o : Own) (fits : OwnFits o) (per jit cost : List ℕ) (n frames : ℕ) where
   abbrev L : ℕ
@@ -127,7 +129,8 @@ module _ (v : ℕ → ℕ) (v-grows : Mono v) (o : Own) (fits : OwnFits o) (per 
         (s .busy) one inside (wait-cold rate v L rest own (mostIn own 0)) in
         omega (arith, same-start base e, under, s .ends, s .beside .wire-is)
 
-    cold-under : (base : ℕ) → base ≡ L + (first o - 1) * o .wire → Under (waitLoad rate v L rest own (mostIn own 0 + 0)) base
+    cold-under : (base : ℕ) → base ≡ L + (first o - 1) * o .wire
+        → Under (waitLoad rate v L rest own (mostIn own 0 + 0)) base
     cold-under base e =
         let none : mostIn own 0 ≡ mostIn own 0 + 0 = sym (add-zero (mostIn own 0)) in
         let same = same-start base e ∙ ap (λ (q : ℕ). L + (q - 1) * C) none in
@@ -144,7 +147,8 @@ module _ (v : ℕ → ℕ) (v-grows : Mono v) (o : Own) (fits : OwnFits o) (per 
 
       come-is : come ≡ earliest own q
       come-is =
-          f .come-is ∙ ap (λ (a : ℕ). earliest (ownStream o) (a + k)) first-is ∙ early-own o per jit cost n (s .beside) q
+          f .come-is ∙ ap (λ (a : ℕ). earliest (ownStream o) (a + k)) first-is ∙ early-own o per jit cost n
+          (s .beside) q
 
       -- some number up to the horizon closes its wait
       pub frame-closes : Closes (rowDemand v per jit cost n base (o .wire))
@@ -165,7 +169,8 @@ module _ (v : ℕ → ℕ) (v-grows : Mono v) (o : Own) (fits : OwnFits o) (per 
         pub frame-sent : (w + o .wire ≤ 100_000_000) × (come ≤ w)
         frame-sent =
             let in-time =
-            wait-inside rate v L rest own (s .beside .some-period) (s .b) q w (s .busy) (inside .0) (inside .1) waited in
+            wait-inside rate v L rest own (s .beside .some-period) (s .b) q w (s .busy) (inside .0) (inside .1) waited
+            in
             let arrived =
             wait-arrived rate v L rest own (s .beside .some-period) v-grows own-pos
             (omega (arith, s .beside .wire-is, fits .wire-least)) (s .b) q w (s .busy) (inside .0) (inside .1) waited in
@@ -191,7 +196,8 @@ module _ (v : ℕ → ℕ) (v-grows : Mono v) (o : Own) (fits : OwnFits o) (per 
   frames-start base e =
       record {
         best-is = λ s.
-            sym (worst-none (s .beside .rate) v L (s .beside .rest) (s .beside .own) (s .b) (mostIn (s .beside .own) 0));
+            sym (worst-none (s .beside .rate) v L (s .beside .rest) (s .beside .own) (s .b)
+            (mostIn (s .beside .own) 0));
         under = λ s. cold-under s base e;
       }
 

@@ -37,7 +37,8 @@ pub record StreamFits (j : Stream) : Type 0 where
   pub jitter-most : j .jitter ≤ 100_000_000
 
 -- stairs that can be read and whose V grows and spreads, streams in range, a rate code
-pub record Asks (rate cycle : ℕ) (far tot : List ℕ) (m : ℕ) (streams : List Stream) (n : ℕ) (own : Stream) : Type 0 where
+pub record Asks (rate cycle : ℕ) (far tot : List ℕ) (m : ℕ) (streams : List Stream) (n : ℕ)
+    (own : Stream) : Type 0 where
   pub table : TableFits cycle far tot m
   pub all-most : allIn tot m ≤ 100_000_000
   pub v-grows : Mono (tableV cycle far tot m)
@@ -78,8 +79,8 @@ pub record BesideIn (v : ℕ → ℕ) (o : Own) (per jit cost : List ℕ) (n fra
 
 -- ---- what is computed from rows of numbers
 
--- how many frames are enough of those that a busy window has: all, or, where z closes the calm window, one and as many as
--- can come later in z
+-- how many frames are enough of those that a busy window has: all, or, where z closes the calm window, one and as
+-- many as can come later in z
 abbrev pub EnoughOf : (v : ℕ → ℕ) (per calm cost : List ℕ) (n : ℕ) (o : Own) (all r : ℕ) → Type 0
 EnoughOf v per calm cost n o all r =
     (r ≡ all)
@@ -89,7 +90,8 @@ EnoughOf v per calm cost n o all r =
 abbrev pub WorstFor : (v : ℕ → ℕ) (o : Own) (per jit cost : List ℕ) (n frames r : ℕ) → Type 0
 WorstFor v o per jit cost n frames r =
     (s : BesideIn v o per jit cost n frames)
-    → r ≡ worstOf (s .beside .rate) v (o .lower) (s .beside .rest) (s .beside .own) (s .b) (mostIn (s .beside .own) 0) frames
+    → r ≡ worstOf (s .beside .rate) v (o .lower) (s .beside .rest) (s .beside .own) (s .b) (mostIn (s .beside .own) 0)
+    frames
 
 -- r is the response bound, whichever streams the numbers stand for
 abbrev pub BoundFor : (v : ℕ → ℕ) (o : Own) (per jit cost : List ℕ) (n : ℕ) → Response → Type 0

@@ -17,7 +17,8 @@ use crate::search::settle;
 
 // How many frames are enough, of all that the busy window has from the last that can come at 0 on. Where the window
 // without jitter and without streams of lower priority closes soon, as many as come later in that, and one; else all.
-// The search for it ends after an eighth as many tries as there are frames: further on it would cost more than it saves.
+// The search for it ends after an eighth as many tries as there are frames: further on it would cost more than it
+// saves.
 pub fn enough<'a>(
     next: &mut [u32; 64],
     per: &[u32; 64],

@@ -41,8 +41,8 @@ fn load_at_least(jit: &[u32; 64], cost: &[u32; 64], inv: &[u32; 64], n: usize, x
     load
 }
 
-// A number that no busy window of own is shorter than: from 0 on, by what is asked for at least. Mostly it is the window,
-// or just below. The horizon and 1 where that passes the horizon.
+// A number that no busy window of own is shorter than: from 0 on, by what is asked for at least. Mostly it is the
+// window, or just below. The horizon and 1 where that passes the horizon.
 pub fn hasten<'a>(
     per: &[u32; 64],
     jit: &[u32; 64],

@@ -93,8 +93,8 @@ pub fn settle<'a>(
     }
 }
 
-// The busy window of own beside the streams of the rows: the least x up to the horizon that covers L, all their frames in
-// x, and the interference of x. The horizon and 1 where there is none.
+// The busy window of own beside the streams of the rows: the least x up to the horizon that covers L, all their
+// frames in x, and the interference of x. The horizon and 1 where there is none.
 pub fn window<'a>(
     next: &mut [u32; 64],
     per: &[u32; 64],

@@ -50,7 +50,8 @@ unfolding judgedBy responseOf verdict
 judged-verdict i none = refl
 judged-verdict i (some r) = go (ltb (i .deadline) r)
   where
-    go : (b : Bool) → cond b (Figures.Refused (Late r)) (Figures.Is r) ≡ figureOf (cond b (refused (Late r)) (accepted r))
+    go : (b : Bool)
+        → cond b (Figures.Refused (Late r)) (Figures.Is r) ≡ figureOf (cond b (refused (Late r)) (accepted r))
     go true = refl
     go false = refl
 
@@ -102,7 +103,8 @@ module _ (d : Desk) (f : Fit d) (id : ℕ) where
     -- V by the stored stairs is V of the slots held
     same-v : tableV (d .cycle) (d .far) (d .tot) (d .nstairs) ≡ interference (gateIn d) (slotsIn d)
     unfolding gateOf
-    same-v = fun-ext (rows-give-interference (gateIn d) (slotsIn d) (d .far) (d .tot) (d .nstairs) (h .stored) (h .count))
+    same-v =
+        fun-ext (rows-give-interference (gateIn d) (slotsIn d) (d .far) (d .tot) (d .nstairs) (h .stored) (h .count))
 
     stream-fits : (j : Stream) → Mem j (streamsIn d) → StreamFits j
     unfolding octetLimit
@@ -161,7 +163,8 @@ module _ (d : Desk) (f : Fit d) (id : ℕ) where
             own-fits = stream-fits own (Memᴰ·cast is-own (mem-get (streamsIn d) p noStream inside));
           }
 
-      same-bound : bound (d .rate) (tableV (d .cycle) (d .far) (d .tot) (d .nstairs)) (lowerWire (d .rate) own rest) rest own
+      same-bound : bound (d .rate) (tableV (d .cycle) (d .far) (d .tot) (d .nstairs)) (lowerWire (d .rate) own rest)
+          rest own
           ≡ boundOf (portIn d) (slotsIn d) (streamsIn d) own
       unfolding boundOf
       same-bound =

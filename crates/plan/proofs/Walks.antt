@@ -38,8 +38,8 @@ octets-of (slotField s) = refl
 octets-of (streamField j) = refl
 
 -- an accepted answer is not a refused one
-told-apart : {v : Verdict} {r : Refusal} → v ≡ Accepted → v ≡ Refused r → _≡_ {A = ℕ} 0 1
-told-apart a b = cc
+told-apart : {v : Verdict} {r : Refusal} → v ≡ Accepted → v ≡ Refused r → ⊥
+told-apart a b = let z : _≡_ {A = ℕ} 0 1 = cc in omega arith
 
 -- a field walked
 abbrev pub walkedBy : Verdict → ℕ → Desk → Walked
@@ -123,12 +123,12 @@ module _ (plan : List ℕ) (at : ℕ) (d : Desk) (w : Walked) (h : at < length p
           let place : w .at ≡ at + fieldLength g = ap (λ (x : Walked). x .at) q in
           let desk : held (w .desk) ≡ x = ap (λ (x : Walked). held (x .desk)) q ∙ held-keeping d x in
           (omega arith, rw (place, desk, drop-drop (fieldLength g) at plan))
-      by-edit g (refused r) q = let z : _≡_ {A = ℕ} 0 1 = told-apart v (ap (λ (x : Walked). x .verdict) q) in absurd (omega arith)
+      by-edit g (refused r) q = absurd (told-apart v (ap (λ (x : Walked). x .verdict) q))
 
       by-front : (a : Answer Field) → w ≡ walkedTo d (afterFront at (drop at plan) (held d) a)
           → Goes (afterFront at (drop at plan) (held d) a)
       by-front (accepted g) q = by-edit g (edit g (held d)) q
-      by-front (refused r) q = let z : _≡_ {A = ℕ} 0 1 = told-apart v (ap (λ (x : Walked). x .verdict) q) in absurd (omega arith)
+      by-front (refused r) q = absurd (told-apart v (ap (λ (x : Walked). x .verdict) q))
 
   -- a field that is refused: the walk stops at it
   pub went-no-further : (why : Refusal) → w .verdict ≡ Refused why

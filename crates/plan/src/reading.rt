@@ -1,4 +1,5 @@
-// Reading a whole plan (document 01, "The reader walks the plan one field at a time and makes the edit each field names").
+// Reading a whole plan (document 01, "The reader walks the plan one field at a time and makes the edit each field
+// names").
 ghost use mathlib.Core.Path.{_≡_};
 ghost use mathlib.Core.List.{[]};
 ghost use Prim.Native.Nat.{_+_, _≤_, _<_};

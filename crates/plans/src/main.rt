@@ -1,5 +1,6 @@
-// Reads the plans that its arguments name and writes each back: a line with the name, document 01's number of the answer
-// (0 where it is read) and the place; then the writer's number, its count, and the octets in front of the room.
+// Reads the plans that its arguments name and writes each back: a line with the name, document 01's number of the
+// answer (0 where it is read) and the place; then the writer's number, its count, and the octets in front of the
+// room.
 ghost use mathlib.Core.Path.{_≡_};
 ghost use lib.ListN.{length};
 ghost use Rattle.desk.specs.Desks.{Fit};

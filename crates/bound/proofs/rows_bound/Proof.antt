@@ -1,5 +1,5 @@
--- `bound::rows_bound` meets its contract: endless where no window closes, and else the largest response of the frames that
--- are enough.
+-- `bound::rows_bound` meets its contract: endless where no window closes, and else the largest response of the frames
+-- that are enough.
 -- Assumes nothing.
 use mathlib.Core.Path.{_≡_, refl, ap₂}
 use Prim.Native.Nat.{ℕ, _+_, _-_}
@@ -20,7 +20,8 @@ returns : tie.Need-returns
 returns c =
     let s = c .before .before in
     let a = s .args in
-    endless-first (tableOf (a .far .now) (a .tot .now) (a .g)) (a .own) (a .per .now) (a .jit .now) (a .cost .now) (a .g .n)
+    endless-first (tableOf (a .far .now) (a .tot .now) (a .g)) (a .own) (a .per .now) (a .jit .now) (a .cost .now)
+    (a .g .n)
     (s .pre .v-grows) (omega (arith, c .before .interference .ensures))
 
 table : (c : tie.Else1)
@@ -47,7 +48,8 @@ returns-2 : tie.Need-returns-2
 returns-2 c =
     let w = c .before in
     let a = w .before .before .before .before .args in
-    endless-window (tableOf (a .far .now) (a .tot .now) (a .g)) (a .own) (a .per .now) (a .jit .now) (a .cost .now) (a .g .n)
+    endless-window (tableOf (a .far .now) (a .tot .now) (a .g)) (a .own) (a .per .now) (a .jit .now) (a .cost .now)
+    (a .g .n)
     (w .window .result) (w .window .ensures .0) (omega arith)
 
 frames-in-requires : tie.Need-frames-in-requires
@@ -108,7 +110,8 @@ worst-requires c κs =
       table (w .before .before),
       e .enough .ensures .2,
       p .own-fits,
-      beside-in (tableOf (a .far .now) (a .tot .now) (a .g)) (a .own) (a .per .now) (a .jit .now) (a .cost .now) (a .g .n)
+      beside-in (tableOf (a .far .now) (a .tot .now) (a .g)) (a .own) (a .per .now) (a .jit .now) (a .cost .now)
+          (a .g .n)
           (w .window .result) (w .window .ensures .0) (f .before .before .if2 .left) (p .own-fits)
           (f .frames-in2 .result + 1 - f .before .frames-in .result) (e .enough .result) (all-is f)
           (e .enough .ensures .1) (p .beside),
@@ -122,7 +125,8 @@ returns-3 c =
     let s = w .before .before .before .before in
     let a = s .args in
     let p = s .pre in
-    bound-within (tableOf (a .far .now) (a .tot .now) (a .g)) (a .own) (a .per .now) (a .jit .now) (a .cost .now) (a .g .n)
+    bound-within (tableOf (a .far .now) (a .tot .now) (a .g)) (a .own) (a .per .now) (a .jit .now) (a .cost .now)
+    (a .g .n)
     (w .window .result) (w .window .ensures .0) (f .before .before .if2 .left) (p .own-fits)
     (f .frames-in2 .result + 1 - f .before .frames-in .result) (e .enough .result) (all-is f) (e .enough .ensures .1)
     (p .v-spreads) (replicate 64 0) (zeros-in (a .g .n) (p .rows-fit .few)) (e .enough .ensures .0) (c .worst .result)

@@ -1,7 +1,6 @@
--- `fields::moved` meets its contract: a walk of its MIR, by hand. A struct is made anew, of the slice that the one passed
--- holds and of another number.
--- The struct is Copy, so what it owns is had twice: one copy is kept whole for the exit, and the other, with the facts
--- of the number in the place of at's, is what the result owns.
+-- `fields::moved` meets its contract: a walk of its MIR, by hand. A struct is made anew, of the slice that the one
+-- passed holds and of another number. The struct is Copy, so what it owns is had twice: one copy is kept whole for
+-- the exit, and the other, with the facts of the number in the place of at's, is what the result owns.
 -- Assumes nothing.
 use mathlib.Core.Path.{refl}
 use mathlib.Core.List.{[], _∷_}

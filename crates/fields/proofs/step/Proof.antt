@@ -1,6 +1,6 @@
--- `fields::step` meets its contract: a walk of its MIR, by hand. A `Reader` that one call returns is held in a local and
--- passed to the next. All that the proof knows of `new`, `moved` and `next` is that each meets its contract.
--- A machine value that a call returns is stored and passed on as it is. In a local MIR erases the lifetime of the
+-- `fields::step` meets its contract: a walk of its MIR, by hand. A `Reader` that one call returns is held in a local
+-- and passed to the next. All that the proof knows of `new`, `moved` and `next` is that each meets its contract. A
+-- machine value that a call returns is stored and passed on as it is. In a local MIR erases the lifetime of the
 -- struct's type, so the value is shown to have the type at `erased`: what the struct owns does not say the lifetime.
 -- Assumes nothing.
 use mathlib.Core.Path.{_≡_, refl, _∙_}

@@ -1,4 +1,5 @@
--- `fields::stream_at` meets its contract: a whole value lies within the plan, and each number stands at its offset in it.
+-- `fields::stream_at` meets its contract: a whole value lies within the plan, and each number stands at its offset in
+-- it.
 -- Assumes nothing.
 use mathlib.Core.Path.{sym, _∙_}
 use Prim.Native.Nat.{_+_, _≤_}

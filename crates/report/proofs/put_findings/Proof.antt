@@ -59,7 +59,9 @@ put-streams-requires c κs =
 
 add-result : tie.Need-add-result
 add-result c =
-    let s = c .before .before .before .before .before .before .before .before .before .before .before .before .before .before .before in
+    let s =
+    c .before .before .before .before .before .before .before .before .before .before .before .before .before .before
+    .before in
     let z = sized (s .args .d) (s .pre .0) (s .pre .1) in
     search needs
 

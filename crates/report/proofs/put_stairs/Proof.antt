@@ -82,7 +82,8 @@ loop-again c =
     let lf : length (a .t2) ≡ 993 = search needs in
     let lt : length (a .t3) ≡ 993 = search needs in (
       omega arith,
-      stair-turn (a .t2) (a .t3) (a .n) (omega arith) (omega arith) (a .out .now) (s .pre .1) (h .loop .out) (h .loop .at)
+      stair-turn (a .t2) (a .t3) (a .n) (omega arith) (omega arith) (a .out .now) (s .pre .1) (h .loop .out)
+          (h .loop .at)
           (h .loop .i) (omega arith) (h .loop .inv .1) _ _ (c .before .before .put-stair .ensures),
     )
 

@@ -73,7 +73,8 @@ loop-again c =
     let s = h .before .before in
     let a = s .args in
     let r = c .before .pass in
-    rows-pass (a .per .now) (a .jit .now) (a .cost .now) (a .n) (s .pre .0) (h .loop .next) (seen h) (a .x) (h .loop .inv)
+    rows-pass (a .per .now) (a .jit .now) (a .cost .now) (a .n) (s .pre .0) (h .loop .next) (seen h) (a .x)
+    (h .loop .inv)
     (r .last .0) (r .result .load) (r .result .least) (r .ensures) (a .seen .shortest)
 
 returns-2 : tie.Need-returns-2 Inv-loop μ-loop

@@ -12,7 +12,8 @@ use Rattle.bound.proofs.counts.count.Statement.{statement}
 use Rattle.bound.proofs.counts.count.Tie as tie
 
 abbrev Inv-loop : tie.InvT-loop
-Inv-loop next₀ per jit cost n x load₀ least₀ shortest₀ i₀ next load least shortest i = (i ≤ n) × CountedAt per jit cost x i next load least
+Inv-loop next₀ per jit cost n x load₀ least₀ shortest₀ i₀ next load least shortest i =
+    (i ≤ n) × CountedAt per jit cost x i next load least
 
 abbrev μ-loop : tie.MeasureT-loop
 μ-loop next₀ per jit cost n x load₀ least₀ shortest₀ i₀ next load least shortest i = n - i
@@ -21,7 +22,8 @@ loop-holds : tie.Need-loop-holds Inv-loop μ-loop
 loop-holds c =
     let a = c .args in (
       omega arith,
-      count-starts (a .per .now) (a .jit .now) (a .cost .now) (a .x) (a .next .now) 4_294_967_295 (c .pre .2) (omega arith),
+      count-starts (a .per .now) (a .jit .now) (a .cost .now) (a .x) (a .next .now) 4_294_967_295 (c .pre .2)
+          (omega arith),
     )
 
 mul-t : tie.Need-mul-t Inv-loop μ-loop
@@ -119,7 +121,9 @@ loop-again c =
     let l = h .loop in
     let fit = h .before .pre .0 in
     let s = f .before .next-after in
-    let near = next-near (a .x) (getD (a .per .now) (l .i) 0) (getD (a .jit .now) (l .i) 0) (omega arith) (fit .periods (l .i) (omega arith) .0) in (
+    let near =
+    next-near (a .x) (getD (a .per .now) (l .i) 0) (getD (a .jit .now) (l .i) 0) (omega arith)
+    (fit .periods (l .i) (omega arith) .0) in (
       omega arith,
       count-more (a .per .now) (a .jit .now) (a .cost .now) (a .x) (l .i) (l .next) (l .load) (l .least) (s .result)
           (f .frames-in .result * getD (a .cost .now) (l .i) 0) (c .before .lesser .result) (l .inv .1)

@@ -1,4 +1,5 @@
--- `bound::frames::enough` meets its contract. The invariant: what is counted has come by w. The measure: the tries left.
+-- `bound::frames::enough` meets its contract. The invariant: what is counted has come by w. The measure: the tries
+-- left.
 -- Assumes nothing.
 use mathlib.Core.Path.{_≡_, refl}
 use mathlib.Core.Logic.{inl, inr}
@@ -14,7 +15,8 @@ use Rattle.bound.proofs.frames.enough.Statement.{statement}
 use Rattle.bound.proofs.frames.enough.Tie as tie
 
 abbrev Inv-loop : tie.InvT-loop
-Inv-loop next₀ per calm cost far tot g own all w₀ seen₀ tries₀ next w seen tries = RowsCounted per calm cost (g .n) next seen w × (w ≤ 100_000_000)
+Inv-loop next₀ per calm cost far tot g own all w₀ seen₀ tries₀ next w seen tries =
+    RowsCounted per calm cost (g .n) next seen w × (w ≤ 100_000_000)
 
 abbrev μ-loop : tie.MeasureT-loop
 μ-loop next₀ per calm cost far tot g own all w₀ seen₀ tries₀ next w seen tries = tries

@@ -17,12 +17,14 @@ use Rattle.bound.proofs.frames.worst.Statement.{statement}
 use Rattle.bound.proofs.frames.worst.Tie as tie
 
 abbrev Inv-loop : tie.InvT-loop
-Inv-loop next₀ per jit cost far tot g own frames c come₀ later₀ base₀ w₀ seen₀ best₀ k₀ next come later base w seen best k =
+Inv-loop next₀ per jit cost far tot g own frames c come₀ later₀ base₀ w₀ seen₀ best₀ k₀ next come later base w seen
+    best k =
     (k ≤ frames) × RowsCounted per jit cost (g .n) next seen w × (w ≤ 100_000_000) × FrameNumbers own k base come later
     × FramesDone (tableOf far tot g) own per jit cost (g .n) frames k w best
 
 abbrev μ-loop : tie.MeasureT-loop
-μ-loop next₀ per jit cost far tot g own frames c come₀ later₀ base₀ w₀ seen₀ best₀ k₀ next come later base w seen best k = frames - k
+μ-loop next₀ per jit cost far tot g own frames c come₀ later₀ base₀ w₀ seen₀ best₀ k₀ next come later base w seen
+    best k = frames - k
 
 next-after-requires : tie.Need-next-after-requires Inv-loop μ-loop
 next-after-requires c κs =
@@ -45,7 +47,8 @@ cold c =
     let o = a .own in
     let e = ap (λ (q : ℕ). o .lower + (q - 1) * o .wire) (c .frames-in .ensures .0) in (
       e,
-      cold-start (tableOf (a .far .now) (a .tot .now) (a .g)) (s .pre .1 .grows) o (s .pre .3) (a .per .now) (a .jit .now)
+      cold-start (tableOf (a .far .now) (a .tot .now) (a .g)) (s .pre .1 .grows) o (s .pre .3) (a .per .now)
+          (a .jit .now)
           (a .cost .now) (a .g .n) (a .frames) (s .pre .4) (o .lower + (c .frames-in .result - 1) * o .wire) e,
     )
 
@@ -118,7 +121,8 @@ settle-requires c κs =
       omega (arith, base-few (c .before)),
       s .pre .3 .wire-most,
       frame-under (tableOf (a .far .now) (a .tot .now) (a .g)) (s .pre .1 .grows) (a .own) (s .pre .3) (a .per .now)
-          (a .jit .now) (a .cost .now) (a .g .n) (a .frames) (s .pre .4) (l .k) (l .base) (l .come) (l .later) (l .inv .3)
+          (a .jit .now) (a .cost .now) (a .g .n) (a .frames) (s .pre .4) (l .k) (l .base) (l .come) (l .later)
+          (l .inv .3)
           (omega arith) (l .w) (l .best) (l .inv .4),
       closes (c .before),
     )
@@ -191,7 +195,8 @@ loop-again c =
       rw (c .step .ensures)
           (numbers-next (a .own) (s .pre .3) (l .k) (l .base) (l .come) (l .later) (l .inv .3)),
       rw (c .before .warm-start .ensures, c .before .before .larger .ensures)
-          (frames-next (tableOf (a .far .now) (a .tot .now) (a .g)) (s .pre .1 .grows) (a .own) (s .pre .3) (a .per .now)
+          (frames-next (tableOf (a .far .now) (a .tot .now) (a .g)) (s .pre .1 .grows) (a .own) (s .pre .3)
+          (a .per .now)
           (a .jit .now) (a .cost .now) (a .g .n) (a .frames) (l .k) (l .base) (l .come) (l .later) w (l .w) (l .best)
           (l .inv .3) (omega arith) (u .2) (l .inv .4)),
     )

@@ -52,7 +52,8 @@ returns c =
     let r = c .before .before .advance in
     let v = c .before .interference in (
       r .ensures .0,
-      tried (a .per .now) (a .jit .now) (a .cost .now) (a .g .n) (s .pre .0) (tableOf (a .far .now) (a .tot .now) (a .g))
+      tried (a .per .now) (a .jit .now) (a .cost .now) (a .g .n) (s .pre .0)
+          (tableOf (a .far .now) (a .tot .now) (a .g))
           (a .base) (a .off) (a .w) (r .last .0) (r .result) (v .result) (r .ensures .0) (r .ensures .1) (v .ensures),
     )
 

@@ -1,5 +1,5 @@
--- `bound::search::settle` meets its contract. The invariant: no number below w closes, and what is counted has come by w.
--- The measure: how far w is from the horizon, which it never passes.
+-- `bound::search::settle` meets its contract. The invariant: no number below w closes, and what is counted has come
+-- by w. The measure: how far w is from the horizon, which it never passes.
 -- Assumes nothing.
 use Prim.Native.Nat.{_-_, _≤_}
 use native.Mathlib.Omega.{arith}

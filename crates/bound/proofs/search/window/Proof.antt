@@ -1,5 +1,5 @@
--- `bound::search::window` meets its contract. The invariant: no number below w closes, and what is counted has come by w.
--- The measure: how far w is from the horizon.
+-- `bound::search::window` meets its contract. The invariant: no number below w closes, and what is counted has come
+-- by w. The measure: how far w is from the horizon.
 -- Assumes nothing.
 use mathlib.Core.Path.{_≡_, refl, _∙_}
 use Prim.Native.Nat.{_+_, _-_, _*_, _≤_}
@@ -93,13 +93,15 @@ asked t =
     let f = t .before .before .before .before in
     let a = start (f .before) .args in
     t .attempt .ensures .1
-    ∙ tried-busy (tableOf (a .far .now) (a .tot .now) (a .g)) (a .per .now) (a .jit .now) (a .cost .now) (a .g .n) (a .own)
+    ∙ tried-busy (tableOf (a .far .now) (a .tot .now) (a .g)) (a .per .now) (a .jit .now) (a .cost .now) (a .g .n)
+    (a .own)
     (a .own .lower + f .frames-in .result * a .own .wire) (f .frames-in .result) (f .before .loop .w) refl
     (f .frames-in .ensures .0)
 
 grows : (h : tie.At-loop Inv-loop μ-loop)
     → let a = start h .args in
-    Mono (rowBusy (tableOf (a .far .now) (a .tot .now) (a .g)) (a .per .now) (a .jit .now) (a .cost .now) (a .g .n) (a .own))
+    Mono (rowBusy (tableOf (a .far .now) (a .tot .now) (a .g)) (a .per .now) (a .jit .now) (a .cost .now) (a .g .n)
+    (a .own))
 grows h =
     let s = start h in
     let a = s .args in

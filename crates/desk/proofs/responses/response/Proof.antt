@@ -21,7 +21,8 @@ use Rattle.rows.proofs.stream_place.Reads as stream-place-reads
 
 -- src/responses.rt:34:9
 returns : tie.Need-returns
-returns c = let b = c .before in (response-closed (b .args .t1) (b .pre) (b .args .id) (not-true _ (c .if1 .taken)), b .pre)
+returns c =
+    let b = c .before in (response-closed (b .args .t1) (b .pre) (b .args .id) (not-true _ (c .if1 .taken)), b .pre)
 
 abbrev deskAt : tie.Start → Desk
 deskAt c = c .args .t1
@@ -61,7 +62,8 @@ found : (c : tie.Else2)
 found c =
     let d = deskAt (c .before .before .before .before) in (
       omega (arith, c .if2 .left, open-at (c .before .before .before) .streams-count),
-      sym (getD-take (d .nstreams) (d .streams) (c .before .stream-place .result) noStream (omega (arith, c .if2 .left))),
+      sym (getD-take (d .nstreams) (d .streams) (c .before .stream-place .result) noStream
+          (omega (arith, c .if2 .left))),
     )
 
 -- src/responses.rt:49:9
