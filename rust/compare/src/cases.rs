@@ -2,7 +2,8 @@
 use crate::draw::{edge, once_in, pick, Style};
 use crate::pair::{Difference, Pair};
 use crate::plans::{plan, sample};
-use console::{Call, MOST_ROOM};
+use console::{Call, Values, MOST_ROOM};
+use ghritpoma::Stream;
 use reference::{Desk, Dice, Open, HORIZON};
 
 /// The model's desk, where it is open.
@@ -13,15 +14,19 @@ fn held<'a>(pair: &'a Pair) -> Option<&'a Open> {
     }
 }
 
-/// A length to ask interference of: around whole cycles, around the horizon, or anything.
-fn length(dice: &mut Dice, cycle: u64) -> u64 {
-    let anywhere = dice.from(0, HORIZON);
-    let whole = cycle * dice.from(0, 3) + dice.from(0, 2);
-    let length = pick(&[dice.from(0, cycle), dice.from(0, 4 * cycle), whole.saturating_sub(1), anywhere], dice);
+/// A length to ask interference of: around a distance of slots, whole cycles or the horizon, or anything.
+fn length(dice: &mut Dice, open: &Open) -> u64 {
     if once_in(dice, 6) {
         return edge(dice, 0, HORIZON);
     }
-    length
+    let cycle = open.port.cycle;
+    let mut distance = 0;
+    if !open.slots.is_empty() {
+        let (one, other) = (dice.one_of(&open.slots), dice.one_of(&open.slots));
+        distance = (other.start + cycle - one.start) % cycle;
+    }
+    let around = (distance + cycle * dice.from(0, 3) + dice.from(0, 2)).saturating_sub(1);
+    pick(&[around, around, dice.from(0, 4 * cycle), dice.from(0, HORIZON)], dice)
 }
 
 /// A room around as long as the plan needs, or of any length.
@@ -33,21 +38,34 @@ fn room(dice: &mut Dice, open: Option<&Open>) -> u64 {
     pick(&[near, need + dice.from(0, 40), dice.from(0, need), any], dice)
 }
 
+/// Asks for a response and now and then, where it has a bound, gives the stream that very deadline or one shorter.
+fn response(dice: &mut Dice, pair: &mut Pair, id: u64) -> Result<(), Difference> {
+    let reply = pair.make(Call::Response(id))?;
+    let held = held(pair).and_then(|open| open.stream(id));
+    let (Values::Figure(bound), Some(&stream), true) = (reply.values, held, once_in(dice, 3)) else { return Ok(()) };
+    let reference::Stream { id, priority, octets, period, jitter, .. } = stream;
+    let deadline = bound - dice.from(0, 1);
+    pair.make(Call::Unstream(id))?;
+    pair.make(Call::Stream(Stream { id, priority, octets, period, jitter, deadline }))?;
+    pair.make(Call::Response(id)).map(|_| ())
+}
+
 /// One plan, read by both, and figures of the desk that it gives.
 pub fn one_plan(dice: &mut Dice, pair: &mut Pair) -> Result<(), Difference> {
     let style = Style::new(dice);
     pair.make(Call::Read(plan(dice, &style)))?;
     let room = room(dice, held(pair));
     pair.make(Call::Write(room))?;
-    let Some(open) = held(pair) else { return Ok(()) };
-    let ids: Vec<u64> = open.streams.iter().map(|stream| stream.id).collect();
-    let cycle = open.port.cycle;
+    let Some(open) = held(pair).cloned() else { return Ok(()) };
     for _ in 0..2 {
-        pair.make(Call::Interference(length(dice, cycle)))?;
+        pair.make(Call::Interference(length(dice, &open)))?;
     }
     // every stream of a small plan, one in eight of a large one
-    for &id in ids.iter().filter(|_| ids.len() <= 8 || once_in(dice, 8)) {
-        pair.make(Call::Response(id))?;
+    let small = open.streams.len() <= 8;
+    for stream in &open.streams {
+        if small || once_in(dice, 8) {
+            response(dice, pair, stream.id)?;
+        }
     }
     pair.reads_back()
 }
@@ -95,7 +113,7 @@ fn next_call(dice: &mut Dice, style: &Style, open: &Open, growing: bool) -> Call
         74..=75 => Call::Open(style.port(dice)),
         76..=77 => Call::Runs,
         78..=79 => Call::Stairs,
-        80..=86 => Call::Interference(length(dice, open.port.cycle)),
+        80..=86 => Call::Interference(length(dice, open)),
         87..=91 => Call::Response(id(dice, style, open)),
         _ => Call::Write(room(dice, Some(open))),
     }
@@ -128,7 +146,10 @@ pub fn one_sequence(dice: &mut Dice, pair: &mut Pair) -> Result<(), Difference> 
             Some(open) => next_call(dice, &style, open, growing),
             None => on_bare(dice, &style, growing),
         };
-        pair.make(call)?;
+        match call {
+            Call::Response(id) => response(dice, pair, id)?,
+            call => pair.make(call).map(|_| ())?,
+        }
     }
     pair.reads_back()
 }

@@ -18,32 +18,51 @@ fn reply(answer: Result<Values, Refusal>) -> Reply {
     }
 }
 
-/// Whether a brute answer to this call on this desk takes a millisecond or two at most.
+/// Whether cells may be looked at one by one.
+fn few_cells(cycle: u64, guard: u64, header: u64) -> bool {
+    cycle <= 5_000 && guard + header <= 10_000
+}
+
+/// Whether the model has a brute answer to this call on this desk that takes a millisecond or two at most.
 fn quick(open: &Open, call: &Call) -> bool {
     let port = open.port;
-    let small = port.cycle <= 5_000 && port.guard + port.header <= 10_000 && open.slots.len() <= 16;
-    small
+    few_cells(port.cycle, port.guard, port.header)
+        && open.slots.len() <= 16
         && match call {
             Call::Interference(length) => *length <= 20 * port.cycle,
             Call::Response(id) => open.stream(*id).is_some_and(|stream| {
                 let window = Mode::Fast.busy_window(open, stream, 30_000);
                 window.is_some_and(|b| (b + stream.jitter) / stream.period < 5)
             }),
-            _ => true,
+            Call::Slot { .. } | Call::Runs | Call::Stairs => true,
+            _ => false,
         }
 }
 
+/// The same of a plan, by the port that it begins with.
+fn quick_plan(plan: &[u8]) -> bool {
+    let number = |from: usize| plan[from..from + 4].iter().fold(0, |sum, &octet| sum << 8 | u64::from(octet));
+    (16..=300).contains(&plan.len()) && few_cells(number(4), number(8), number(12))
+}
+
 impl Model {
-    fn mode(&self, call: &Call) -> Mode {
-        match &self.desk {
-            Desk::Open(open) if self.brute && quick(open, call) => Mode::Brute,
-            _ => Mode::Fast,
+    /// How the model finds its answer to this call.
+    pub fn mode(&self, call: &Call) -> Mode {
+        let quick = self.brute
+            && match (call, &self.desk) {
+                (Call::Read(plan), _) => quick_plan(plan),
+                (_, Desk::Open(open)) => quick(open, call),
+                (_, Desk::Bare) => false,
+            };
+        if quick {
+            Mode::Brute
+        } else {
+            Mode::Fast
         }
     }
 
     /// Makes the call on the model's desk.
-    pub fn make(&mut self, call: &Call) -> Reply {
-        let mode = self.mode(call);
+    pub fn make(&mut self, mode: Mode, call: &Call) -> Reply {
         let (desk, reply) = self.edit(mode, call);
         self.desk = desk;
         reply

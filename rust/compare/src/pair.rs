@@ -4,6 +4,7 @@ use crate::model::Model;
 use crate::tally::Tally;
 use console::{make, Call, Reply, Values};
 use ghritpoma::{Desk, MOST_OCTETS};
+use reference::Mode;
 use std::panic::{catch_unwind, set_hook, AssertUnwindSafe};
 use std::time::{Duration, Instant};
 
@@ -50,12 +51,14 @@ impl<'a> Pair<'a> {
     /// Both replies to the last call of the script, which have to be one.
     fn reply(&mut self, call: &Call) -> Result<Reply, Difference> {
         let before = self.fault.map(|fault| (fault, self.core.clone()));
+        let mode = self.model.mode(call);
+        self.tally.brute += u64::from(mode == Mode::Brute);
         let both = catch_unwind(AssertUnwindSafe(|| {
             let (mut core, _) = make(&mut self.core, call);
             if let Some((fault, before)) = before {
                 plant(fault, call, &before, &mut self.core, &mut core);
             }
-            (core, self.model.make(call))
+            (core, self.model.make(mode, call))
         }));
         match both {
             Ok((core, model)) if core == model => Ok(core),

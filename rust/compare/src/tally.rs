@@ -9,6 +9,8 @@ pub struct Tally {
     /// Plans accepted, those within sequences included.
     read: u64,
     calls: u64,
+    /// Calls and looks that the model answered cell by cell and number by number.
+    pub brute: u64,
     /// Replies by number, 0 where accepted.
     numbers: [u64; 15],
     /// The most slots, runs, stairs and streams of one desk.
@@ -48,8 +50,9 @@ impl Tally {
     /// All counts, a line each.
     pub fn print(&self) {
         let refused = (1..=14).map(|number| format!(" {number}: {}", self.numbers[number]));
-        let Tally { plans, sequences, calls, read, .. } = self;
+        let Tally { plans, sequences, calls, read, brute, .. } = self;
         println!("compare: {plans} plans, {sequences} sequences of calls, {calls} calls, {read} plans accepted");
+        println!("compare: {brute} answers of the model cell by cell");
         println!("compare: {} accepted; refused by number:{}", self.numbers[0], refused.collect::<String>());
         let [slots, runs, stairs, streams] = self.most;
         println!("compare: at most {slots} slots, {runs} runs, {stairs} stairs and {streams} streams on a desk");
