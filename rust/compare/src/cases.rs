@@ -90,7 +90,7 @@ fn start(dice: &mut Dice, open: &Open) -> u64 {
     dice.one_of(&[held.start, held.start, held.start, held.end, held.start + 1, held.start | 1 << 32])
 }
 
-/// The next call on a desk; the more it leans to growing, the fewer removals there are.
+/// The next call on a desk. One that is growing sees fewer removals.
 fn next_call(dice: &mut Dice, style: &Style, open: &Open, growing: bool) -> Call {
     let stream = |dice: &mut Dice| {
         let mut stream = style.stream(dice);

@@ -24,7 +24,7 @@ pub enum Values {
 
 /// What stands in a room before it is written to: octets that tell the places and the lengths of rooms apart.
 pub fn pattern(room: u64) -> Vec<u8> {
-    (0..room).map(|place| (place * 37 + room * 11 + place / 256) as u8).collect()
+    (0..room).map(|place| (place as u8).wrapping_mul(37) ^ (place >> 8) as u8 ^ room as u8).collect()
 }
 
 impl fmt::Display for Reply {
