@@ -16,6 +16,8 @@ use Rattle.meaning.specs.Promises.{SoundDesk}
 use Rattle.meaning.specs.Bytes.{Field, fieldLength, fieldOctets, front, edit, going, stopped, afterEdit}
 use Rattle.meaning.specs.Bytes.{afterFront, step, walk, Outcome, read, refusedAt, ended, readPlan, deskRead}
 use Rattle.meaning.specs.Plans.{Begins, MadeOf, AcceptedPlan}
+-- for the order of the check alone: the instances come before every law
+use Rattle.meaning.proofs.Instances.{small-gate}
 use Rattle.meaning.proofs.Sounds.{sound-bare}
 use Rattle.meaning.proofs.Plans.{plan-length}
 use Rattle.meaning.proofs.Octets.{Octets}

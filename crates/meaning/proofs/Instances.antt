@@ -1,4 +1,4 @@
--- Small instances of document 01's definitions, each to be checked by hand; listed first, so that a slip is met here.
+-- Small instances of document 01's definitions, each to be checked by hand; met first, so that a slip shows here.
 -- Assumes nothing.
 use mathlib.Core.Path.{_≡_, refl}
 use mathlib.Core.Bool.{true, false}
@@ -94,8 +94,8 @@ pub small-runs : runs small smallSlots ≡ smallRuns
 unfolding runs runsOf runsBelow starts row blocked blocks any
 small-runs = refl
 
--- 4..6 blocks 2 to 6 and 9..10 blocks 7 to 10: they touch, and are one run
-pub touching-runs : runs small (slot 4 6 ∷ slot 9 10 ∷ []) ≡ run 2 9 ∷ []
+-- 2..4 blocks 0 to 4 and 7..8 blocks 5 to 8: they touch, and are one run
+pub touching-runs : runs small (slot 2 4 ∷ slot 7 8 ∷ []) ≡ run 0 9 ∷ []
 unfolding runs runsOf runsBelow starts row blocked blocks any
 touching-runs = refl
 
@@ -181,7 +181,7 @@ lower₂ = record { id = 5; priority = 0; octets = 367; period = 10_000; jitter 
 abbrev rest : List Stream
 rest = equal ∷ higher ∷ lower₁ ∷ lower₂ ∷ []
 
-pub others-of : others 1 (own ∷ rest) ≡ rest
+pub others-of : others 2 (own ∷ rest) ≡ own ∷ higher ∷ lower₁ ∷ lower₂ ∷ []
 unfolding others keep
 others-of = refl
 
