@@ -3,7 +3,7 @@
 use mathlib.Core.Path.{_≡_, refl, sym, ap, _∙_, subst, fun-ext}
 use mathlib.Core.Bool.{Bool, true, false}
 use mathlib.Core.List.{List, [], _∷_, List·Memᴰ·head}
-use mathlib.Core.Option.{Option, some}
+use mathlib.Core.Option.{Option, none, some}
 use Prim.Native.Nat.{ℕ, _+_, _-_, _*_, _/_, _%_, _≤_, _<_}
 use native.Mathlib.Nat.{le-refl}
 use native.Mathlib.Omega.{arith}
@@ -44,7 +44,7 @@ use Rattle.meaning.proofs.Interferences.{interference-law}
 use Rattle.meaning.proofs.Gates.{slots-below, slots-grow}
 use Rattle.meaning.proofs.Plans.{plan-length, write-says}
 use Rattle.meaning.proofs.ReadBack.{written-reads-back}
-use Rattle.meaning.proofs.Responses.{window-some, bound-some, response-some, busy-mono, wait-mono}
+use Rattle.meaning.proofs.Responses.{window-some, bound-some, endless-iff, response-some, busy-mono, wait-mono}
 
 -- ---- the form of V that computes
 
@@ -189,6 +189,30 @@ module _ (id priority deadline : ℕ) where
   bound-alone g =
       rw (eq-eqb id id refl)
       (rw (silent g) bound₈)
+
+-- ---- the horizon's edge, at an interference of 0
+
+-- P8's stream with another jitter
+abbrev jittery : ℕ → Stream
+jittery j = record { id = 1; priority = 0; octets = 117; period = 20_000; jitter = j; deadline = 1 }
+
+jittery-busy : (j k b : ℕ) → iter (busyLoad 2 (λ x. 0) 0 [] (jittery j)) k ≡ b
+    → busyLoad 2 (λ x. 0) 0 [] (jittery j) b ≤ b → Least (busyLoad 2 (λ x. 0) 0 [] (jittery j)) b
+jittery-busy j = iter-least (busy-mono 2 (λ x. 0) 0 [] (jittery j) (λ i m. mem-none m) (λ x y h. le-refl 0) (lit< tt))
+
+-- with jitter 99,990,000 its busy window is the whole horizon
+pub window-at-horizon : window 2 (λ x. 0) 0 [] (jittery 99_990_000) ≡ some 100_000_000
+unfolding horizon iter busyLoad load ahead keep total wireTime extraOctets tenOctets mostIn
+window-at-horizon =
+    window-some 2 (λ x. 0) 0 [] (jittery 99_990_000) 100_000_000 .1
+    (jittery-busy 99_990_000 20 100_000_000 refl (lit≤ tt), lit≤ tt)
+
+-- with jitter 100,000,000 it would be 100,010,000: the stream is endless
+pub endless-past-horizon : bound 2 (λ x. 0) 0 [] (jittery 100_000_000) ≡ none
+unfolding horizon iter busyLoad load ahead keep total wireTime extraOctets tenOctets mostIn
+endless-past-horizon =
+    let least = jittery-busy 100_000_000 20 100_010_000 refl (lit≤ tt) in
+    endless-iff 2 (λ x. 0) 0 [] (jittery 100_000_000) .1 (λ x h c. omega (arith, h, least .first x c))
 
 -- ---- P10
 
