@@ -111,16 +111,13 @@ pub fn refused_by_value(both: &Both) -> Times {
     })
 }
 
-/// The bounds of the streams with these ids.
-pub fn response(both: &Both, ids: &[u64]) -> Times {
+/// The bounds of all streams.
+pub fn response(both: &Both) -> Times {
+    let ids: Vec<u64> = open(&both.model).streams.iter().map(|stream| stream.id).collect();
     let mut held = both.model.clone();
     compare(
         clock::thread,
         &mut || ids.iter().map(|&id| core_told(both.core.response(id))).collect::<Vec<_>>(),
         &mut || ids.iter().map(|&id| ask(&mut held, |desk| desk.response(FAST, id))).collect(),
     )
-}
-
-pub fn ids(both: &Both) -> Vec<u64> {
-    open(&both.model).streams.iter().map(|stream| stream.id).collect()
 }

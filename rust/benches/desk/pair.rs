@@ -4,7 +4,7 @@ use std::fmt::Debug;
 use std::hint::black_box;
 use std::time::Duration;
 
-const ROUNDS: usize = 200;
+const ROUNDS: usize = 40;
 const ROUND: Duration = Duration::from_millis(1);
 /// What takes longer is run once.
 const LONG: Duration = Duration::from_millis(500);
@@ -17,6 +17,15 @@ pub struct Times {
 }
 
 impl Times {
+    pub fn least(self, other: Times) -> Times {
+        Times { core: self.core.min(other.core), model: self.model.min(other.model) }
+    }
+
+    /// So long that one call of each is enough.
+    pub fn long(&self) -> bool {
+        self.core + self.model > LONG
+    }
+
     pub fn ratio(&self) -> f64 {
         self.core.as_secs_f64() / self.model.as_secs_f64()
     }
@@ -51,7 +60,7 @@ pub fn compare<T: PartialEq + Debug>(
     let (theirs, model_once) = answer(model);
     assert_eq!(ours, theirs, "the answers differ");
     let mut least = Times { core: core_once, model: model_once };
-    if core_once + model_once > LONG {
+    if least.long() {
         return least;
     }
     let (core_calls, model_calls) = (calls(core_once), calls(model_once));
@@ -65,7 +74,7 @@ pub fn compare<T: PartialEq + Debug>(
 /// The least time of one call, over rounds of calls.
 pub fn least<T>(f: &mut dyn FnMut() -> T) -> Duration {
     let calls = calls(timed(clock::thread, 1, f));
-    (0..ROUNDS).map(|_| timed(clock::thread, calls, f)).min().expect("some rounds")
+    (0..ROUNDS / 2).map(|_| timed(clock::thread, calls, f)).min().expect("some rounds")
 }
 
 /// A time in three figures.

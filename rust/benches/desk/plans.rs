@@ -97,8 +97,3 @@ pub fn plan(slots: usize, streams: u64) -> reference::Desk {
     }
     next
 }
-
-/// 32 slots, 64 streams.
-pub fn full() -> Both {
-    Both::read(&octets(plan(32, 64)))
-}
