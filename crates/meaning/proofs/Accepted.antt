@@ -18,6 +18,8 @@ use Rattle.meaning.specs.Bytes.{afterFront, step, walk, Outcome, read, r
 use Rattle.meaning.specs.Plans.{Begins, MadeOf, AcceptedPlan}
 -- for the order of the check alone: the instances come before every law
 use Rattle.meaning.proofs.Instances.{small-gate}
+-- named here, the instances are checked before any law: a wrong definition is refused at one of them first
+use Rattle.meaning.proofs.CallInstances.{first-decides}
 use Rattle.meaning.proofs.Sounds.{sound-bare}
 use Rattle.meaning.proofs.Plans.{plan-length}
 use Rattle.meaning.proofs.Octets.{Octets}
