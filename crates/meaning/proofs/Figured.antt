@@ -9,7 +9,7 @@ use native.Mathlib.Nat.{le-refl}
 use native.Mathlib.Omega.{arith}
 use lib.Dec.{lit<, lit≤}
 use borrow.Author.Tests.{eq-eqb}
-use Rattle.laws.specs.Lists.{keep, any, every, total, largest, insertBy, find, joined, Mem}
+use Rattle.laws.specs.Lists.{keep, any, every, total, largest, insertBy, find, Mem}
 use Rattle.laws.specs.Numbers.{largestTo, Least, Mono}
 use Rattle.laws.proofs.Lists.{mem-none}
 use Rattle.laws.proofs.Keeping.{in-cons}
@@ -31,11 +31,11 @@ use Rattle.meaning.specs.Response.{boundIn, bound}
 use Rattle.meaning.specs.Refusals.{accepted, unless}
 use Rattle.meaning.specs.Calls.{addSlot, askRuns, askStairs, askInterference, boundOf, verdict, respond}
 use Rattle.meaning.specs.Calls.{askResponse}
-use Rattle.meaning.specs.Bytes.{octetsOf, tagOf, valueLength, valueOf, fieldOctets, fieldsOf, planOctets}
 use Rattle.meaning.specs.Bytes.{planLength, front, afterFront, step, walk, refusedAt, ended, readPlan}
 use Rattle.meaning.specs.Promises.{Sound}
 use Rattle.meaning.specs.Figures.{slot, run, stair, octetsF, portF, slotsF, streamF₁, streamF₂, deskF, port₈}
 use Rattle.meaning.specs.Figures.{stream₈, Figures}
+use Rattle.meaning.proofs.CallInstances.{octets-are-F}
 use Rattle.meaning.proofs.Counts.{met}
 use Rattle.meaning.proofs.Chains.{lastEnd, hangEnd}
 use Rattle.meaning.proofs.ChainRuns.{broken, runOf, runAt, chainFrom, chainRuns, chain-runs}
@@ -286,10 +286,6 @@ soundF =
 
     each : (j : Stream) → Mem j (streamF₁ ∷ streamF₂ ∷ []) → every (λ b. b) (streamRanges (octetLimit portF) j) ≡ true
     each j m = in-cons m (λ e. rw e) (λ k. in-cons k (λ e. rw e) (λ n. mem-none n))
-
-octets-are-F : planOctets deskF ≡ octetsF
-unfolding planOctets fieldsOf joined fieldOctets octetsOf tagOf valueLength valueOf octetsF
-octets-are-F = refl
 
 empty-refused : readPlan [] ≡ refusedAt OutOfTurn 0
 unfolding readPlan walk ended
