@@ -154,7 +154,7 @@ port-and-slot = refl
 
 -- "4: a plan [..] that is empty": no desk is its
 pub empty-not-accepted : (d : Desk) → ¬ AcceptedPlan [] d
-unfolding readPlan walk ended
+unfolding readPlan walk step ended
 empty-not-accepted d e = let z : _≡_ {A = ℕ} 0 1 = cc in omega arith
 
 pub desk-of-accepted : deskRead (read deskF) ≡ deskF
