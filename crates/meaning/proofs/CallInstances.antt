@@ -232,7 +232,7 @@ unfolding gaps gapsUpTo
 gaps-around = refl
 
 -- none holds a slot past the cycle, or ids that fall
-pub past-cycle-unsound : ¬ SoundDesk (desk₄ 2 (slot 0 1_001 ∷ []))
+pub past-cycle-unsound : ¬ SoundDesk (desk₄ 2 (slot 900 1_001 ∷ []))
 past-cycle-unsound s = omega (arith, s .chain)
 
 pub falling-unsound : ¬ SoundDesk (opened portF slotsF (streamF₂ ∷ streamF₁ ∷ []))
