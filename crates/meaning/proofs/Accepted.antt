@@ -16,9 +16,8 @@ use Rattle.meaning.specs.Promises.{SoundDesk}
 use Rattle.meaning.specs.Bytes.{Field, fieldLength, fieldOctets, front, edit, going, stopped, afterEdit}
 use Rattle.meaning.specs.Bytes.{afterFront, step, walk, Outcome, read, refusedAt, ended, readPlan, deskRead}
 use Rattle.meaning.specs.Plans.{Begins, MadeOf, AcceptedPlan}
--- for the order of the check alone: the instances come before every law
+-- for the order of the check alone: the instances come before every law, so that a wrong definition is refused there
 use Rattle.meaning.proofs.Instances.{small-gate}
--- named here, the instances are checked before any law: a wrong definition is refused at one of them first
 use Rattle.meaning.proofs.CallInstances.{first-decides}
 use Rattle.meaning.proofs.Sounds.{sound-bare}
 use Rattle.meaning.proofs.Plans.{plan-length}
