@@ -53,19 +53,33 @@ pub fn plan(r: &mut Random) -> Plan {
     // the share of the free time that all streams together ask for
     let share = [0.3, 0.6, 0.9, 0.97, 0.99, 0.999][r.below(6) as usize] * free(&p);
     let weights: Vec<f64> = (0..streams).map(|_| r.spread(1.0, 100.0) as f64).collect();
+    p.streams = load(r, p.rate, share, &weights, 1_522, priorities, most);
+    p
+}
+
+// Streams that together ask for a share of the wire, by their weights, with frames and jitters up to the longest.
+fn load(
+    r: &mut Random,
+    rate: u32,
+    share: f64,
+    weights: &[f64],
+    longest: u64,
+    priorities: u64,
+    most: f64,
+) -> Vec<Stream> {
     let all: f64 = weights.iter().sum();
-    for id in 0..streams {
-        let octets = r.within(64, 1_522);
-        let period = wire_time(p.rate, octets) as f64 / (share * weights[id as usize] / all);
-        p.streams.push(Stream {
-            id,
+    let mut stream = |(id, weight): (usize, &f64)| {
+        let octets = r.within(64, longest);
+        let period = wire_time(rate, octets) as f64 / (share * weight / all);
+        Stream {
+            id: id as u32,
             priority: r.below(priorities) as u32,
             octets,
             period: period.clamp(10_000.0, 100_000_000.0) as u32,
             jitter: if most < 2.0 { 0 } else { r.spread(1.0, most) },
-        });
-    }
-    p
+        }
+    };
+    weights.iter().enumerate().map(&mut stream).collect()
 }
 
 // The share of the cycle that no slot blocks.
@@ -86,19 +100,7 @@ pub fn full(r: &mut Random) -> Plan {
     let wide = [1.5, 10.0, 100.0, 10_000.0][r.below(4) as usize];
     let longest = [128, 1_522][r.below(2) as usize];
     let weights: Vec<f64> = (0..streams).map(|_| r.spread(1_000.0, 1_000.0 * wide) as f64).collect();
-    let all: f64 = weights.iter().sum();
-    p.streams.clear();
-    for id in 0..streams {
-        let octets = r.within(64, longest);
-        let period = wire_time(p.rate, octets) as f64 / (share * weights[id as usize] / all);
-        p.streams.push(Stream {
-            id,
-            priority: r.below(priorities) as u32,
-            octets,
-            period: period.clamp(10_000.0, 100_000_000.0) as u32,
-            jitter: if most < 2.0 { 0 } else { r.spread(1.0, most) },
-        });
-    }
+    p.streams = load(r, p.rate, share, &weights, longest, priorities, most);
     p
 }
 

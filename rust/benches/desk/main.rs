@@ -89,7 +89,7 @@ fn main() {
     let checked = catch_unwind(|| black_box(255_u8) + black_box(1)).is_err();
     assert!(
         !checked,
-        "overflow checks slow the model alone: run this in rust/, whose .cargo/config.toml leaves them out"
+        "overflow checks slow the model alone: run this by `cargo bench`, whose profile leaves them out"
     );
     ratios();
     growth::table();
