@@ -17,6 +17,11 @@ use Rattle.table.proofs.Keys.{head-ended}
 unfoldable pub entered : ℕ → List ℕ
 entered i = replicate i 0 ++ drop i (replicate 32 32)
 
+-- one row more at its own run
+pub entered-next : (i : ℕ) → i < 32 → set (entered i) i 0 ≡ entered (i + 1)
+unfolding entered
+entered-next i h = fill-more i 0 (replicate 32 32) h
+
 module _ {cycle : ℕ} {rs : List Run} where
   pub heads-none : length rs ≤ 32 → Heads cycle rs (entered 0) (replicate 32 done)
   unfolding entered
@@ -51,13 +56,6 @@ module _ {cycle : ℕ} {rs : List Run} where
       other k hk e =
           getD-set-other keys i k (headKey cycle rs i j) 0 e ∙ h .at k hk
           ∙ ap (headKey cycle rs k) (sym (getD-set-other pos i k j 0 e))
-
-  -- one row more at its own run
-  pub heads-next : {keys : List ℕ} {i : ℕ} → i < 32 → Heads cycle rs (entered i) keys
-      → Heads cycle rs (entered (i + 1)) (set keys i (headKey cycle rs i 0))
-  unfolding entered
-  heads-next {i = i} l h =
-      rw (fill-more i 0 (replicate 32 32) l) at (heads-set h i 0 l)
 
   -- all rows at their own runs
   pub heads-all : {keys : List ℕ} (n : ℕ) → length rs ≡ n → Heads cycle rs (entered n) keys

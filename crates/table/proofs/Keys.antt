@@ -22,7 +22,7 @@ use Rattle.table.proofs.Rows.{runs-in-length, runs-in-at}
 
 -- ---- a pair's key
 
-module _ (d t : ℕ) (h : t ≤ 4_294_967_295) where
+module _ (d t : ℕ) (h : t ≤ 134_217_727) where
   pub key-far : farOf (keyOf d t) ≡ d
   unfolding keyOf
   key-far = omega arith
@@ -32,12 +32,12 @@ module _ (d t : ℕ) (h : t ≤ 4_294_967_295) where
   key-total = omega arith
 
 -- the smaller key comes first
-pub key-order : (p q : Stair) → p .total ≤ 4_294_967_295 → q .total ≤ 4_294_967_295
+pub key-order : (p q : Stair) → p .total ≤ 134_217_727 → q .total ≤ 134_217_727
     → keyOf (p .far) (p .total) ≤ keyOf (q .far) (q .total) → Ahead p q
 unfolding keyOf
 key-order p q hp hq h = by-cases (decLt (p .far) (q .far)) (λ l. inl l) (λ l. inr (omega arith, omega arith))
 
-key-live : (d t : ℕ) → d < 4_294_967_295 → keyOf d t < done
+key-live : (d t : ℕ) → d < 134_217_728 → keyOf d t < done
 unfolding keyOf done
 key-live d t h = omega arith
 

@@ -1,6 +1,6 @@
 pub mod Rows
 pub mod Keys
-pub mod Scan
+pub mod Tree
 pub mod HeadRow
 pub mod Turns
 pub mod Stored

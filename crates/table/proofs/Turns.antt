@@ -3,7 +3,7 @@
 use mathlib.Core.Path.{_≡_, sym, ap, ap₂, _∙_}
 use mathlib.Core.Logic.{by-cases}
 use mathlib.Core.List.{List, [], _∷_, _++_}
-use Prim.Native.Nat.{ℕ, zero, suc, _+_, _-_, _≤_, _<_}
+use Prim.Native.Nat.{ℕ, zero, suc, _+_, _-_, _*_, _/_, _%_, _≤_, _<_}
 use native.Mathlib.Nat.{mul-le-mul}
 use native.Mathlib.Numerals.{add-one}
 use native.Mathlib.Decide.{decLe}
@@ -24,8 +24,10 @@ use Rattle.meaning.proofs.MergeLoop.{merging-done}
 use Rattle.table.specs.declared.Table.{Table}
 use Rattle.table.specs.Rows.{tableOf, runsIn, RunsFit, RowsFit}
 use Rattle.table.specs.Heads.{keyOf, farOf, totalOf, done, Heads, Moving}
+use Rattle.table.specs.Tree.{Standing}
 use Rattle.table.proofs.Rows.{tableWith, grown, table-none, table-next}
 use Rattle.table.proofs.Keys.{key-far, key-total, key-order, head-live, pair-total-fits, not-done, is-done}
+use Rattle.table.proofs.Tree.{first-least, first-row}
 
 -- ---- how far the loop has come
 
@@ -102,7 +104,7 @@ module _ {cycle : ℕ} {rs : List Run} (f : RunsFit cycle rs) where
 
   -- ---- a turn
 
-  pub chosen : {pos keys : List ℕ} → Heads cycle rs pos keys → (i : ℕ) → i < 32
+  chosen : {pos keys : List ℕ} → Heads cycle rs pos keys → (i : ℕ) → i < 32
       → ((k : ℕ) → k < length rs → getD keys i 0 ≤ getD keys k 0) → ¬ (getD keys i 0 ≡ done)
       → Chosen cycle rs pos i (getD keys i 0)
   chosen {pos} {keys} h i hi least live = record {
@@ -117,7 +119,7 @@ module _ {cycle : ℕ} {rs : List Run} (f : RunsFit cycle rs) where
       head : Stair
       head = at i
 
-      fits : (k : ℕ) → at k .total ≤ 4_294_967_295
+      fits : (k : ℕ) → at k .total ≤ 134_217_727
       fits k = omega (arith, pair-total-fits f k (getD pos k 0))
 
       on : (i < length rs) × (getD pos i 0 < length rs)
@@ -132,6 +134,16 @@ module _ {cycle : ℕ} {rs : List Run} (f : RunsFit cycle rs) where
       ahead : (k : ℕ) → k < length rs → getD pos k 0 < length rs → Ahead head (at k)
       ahead k hk hj =
           key-order head (at k) (fits i) (fits k) (omega (arith, key-is, of-row k hk hj, least k hk))
+
+  -- the first node of the tree of the heads names the row, and has its key
+  pub first-chosen : {pos tree : List ℕ} → Standing cycle rs pos tree → (low : ℕ) → low ≡ getD tree 1 0
+      → low < done * 32 → Chosen cycle rs pos (low % 32) (low / 32)
+  first-chosen s low e h =
+      let is = first-row (s .nodes) low e (omega arith) in
+      rw is at
+      (chosen (s .heads) (low % 32) (omega arith)
+      (λ k l. omega (arith, is, first-least (s .nodes) low e k (omega (arith, f .few))))
+      (λ d. omega (arith, is, d)))
 
   module _ {pos far tot : List ℕ} {made top i k : ℕ} (c : SoFar cycle rs pos far tot made top)
       (s : Chosen cycle rs pos i k) (long : length pos ≡ 32) where
@@ -183,15 +195,16 @@ module _ {cycle : ℕ} {rs : List Run} (f : RunsFit cycle rs) where
 
   -- ---- the end: the nearest head is done
 
-  pub so-far-end : {pos keys far tot : List ℕ} {made top : ℕ} → SoFar cycle rs pos far tot made top
-      → Heads cycle rs pos keys → (i : ℕ) → ((k : ℕ) → k < length rs → getD keys i 0 ≤ getD keys k 0)
-      → getD keys i 0 ≡ done → tableWith made far tot ≡ tableOf (stairsOf (pairs cycle rs))
-  so-far-end {pos} {keys} c h i least e =
+  pub so-far-end : {pos tree far tot : List ℕ} {made top : ℕ} → SoFar cycle rs pos far tot made top
+      → Standing cycle rs pos tree → (low : ℕ) → low ≡ getD tree 1 0 → done * 32 ≤ low
+      → tableWith made far tot ≡ tableOf (stairsOf (pairs cycle rs))
+  so-far-end {pos} c s low e h =
       c .held ∙ ap tableOf (stairs-unique (merging-done rows (c .merging) ends) (stairs-are (pairs cycle rs)))
     where
       ends : (k : ℕ) → k < length rs → length rs ≤ getD pos k 0
       ends k hk =
-          is-done f k (getD pos k 0) (omega (arith, least k hk, h .at k (omega (arith, f .few)))) hk
+          let few : k < 32 = omega (arith, f .few) in
+          is-done f k (getD pos k 0) (omega (arith, first-least (s .nodes) low e k few, s .heads .at k few)) hk
 
 -- where row i moves to
 pub moving-on : {cycle n i k : ℕ} {start len pos : List ℕ} → RowsFit cycle start len n

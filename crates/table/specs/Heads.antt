@@ -12,18 +12,18 @@ use Rattle.table.specs.Rows.{runsIn, RowsFit}
 
 -- a pair as one number, its key: the nearer pair has the smaller one, and of two as near the one with the larger total
 unfoldable pub keyOf : ℕ → ℕ → ℕ
-keyOf far total = far * 4_294_967_296 + (4_294_967_295 - total)
+keyOf far total = far * 134_217_728 + (134_217_727 - total)
 
 -- the distance and the total of a pair with this key
 abbrev pub farOf : ℕ → ℕ
-farOf k = k / 4_294_967_296
+farOf k = k / 134_217_728
 
 abbrev pub totalOf : ℕ → ℕ
-totalOf k = 4_294_967_295 - k % 4_294_967_296
+totalOf k = 134_217_727 - k % 134_217_728
 
--- the key of a row that has no pair left
+-- the key of a row that has no pair left, over that of every pair
 unfoldable pub done : ℕ
-done = 18_446_744_073_709_551_615
+done = 18_014_398_509_481_984
 
 -- the key of row i's head where it stands at its j-th pair
 unfoldable pub headKey : ℕ → List Run → ℕ → ℕ → ℕ

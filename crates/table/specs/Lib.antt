@@ -1,3 +1,4 @@
 pub mod Rows
 pub mod Heads
+pub mod Tree
 pub mod Lookup

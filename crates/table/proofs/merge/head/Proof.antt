@@ -5,9 +5,12 @@ use Rattle.table.proofs.Keys.{start-below, head-at-most, head-key, head
 use Rattle.table.proofs.merge.head.Statement.{statement}
 use Rattle.table.proofs.merge.head.Tie as tie
 
+add-result : tie.Need-add-result
+add-result c = omega (arith, c .before .pre .row, c .before .pre .rows .within)
+
 returns : tie.Need-returns
 unfolding done
-returns c = head-done (c .before .pre) (c .if1 .taken)
+returns c = omega (arith, head-done (c .before .pre) (c .if1 .taken))
 
 behind-requires : tie.Need-behind-requires
 behind-requires c κs = search needs
@@ -37,16 +40,21 @@ mul-l c = search needs
 element-copy-out-l : tie.Need-element-copy-out-l
 element-copy-out-l c = search needs
 
-add-key : tie.Need-add-key
-add-key c =
+add-leaf : tie.Need-add-leaf
+add-leaf c =
     let b = c .before .before .before .before in
     omega (
       arith,
       head-at-most (b .before .before .pre) (b .before .if1 .left) _ (b .behind .ensures .0),
     )
 
-key-requires : tie.Need-key-requires
-key-requires c κs = search needs
+leaf-requires : tie.Need-leaf-requires
+leaf-requires c κs =
+    let b = c .before .before .before .before in
+    let m = b .before .before .pre in (
+      omega (arith, head-at-most m (b .before .if1 .left) _ (b .behind .ensures .0)),
+      omega (arith, m .row, m .rows .within),
+    )
 
 returns-2 : tie.Need-returns-2
 returns-2 c =
@@ -54,12 +62,13 @@ returns-2 c =
     let e =
     head-key (b .before .before .pre) (b .before .if1 .left) _ (b .behind .ensures .0) _
     (c .before .before .distance .ensures) in
-    omega (arith, c .key .ensures, e)
+    omega (arith, c .leaf .ensures, e)
 
 pub head-spec : {M : Type 1} → statement M
 head-spec =
     tie.close
     (tie.spec
+    add-result
     returns
     behind-requires
     mul-distance
@@ -69,6 +78,6 @@ head-spec =
     distance-requires
     mul-l
     element-copy-out-l
-    add-key
-    key-requires
+    add-leaf
+    leaf-requires
     returns-2)

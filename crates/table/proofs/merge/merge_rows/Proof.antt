@@ -1,90 +1,85 @@
+use mathlib.Core.Path.{_≡_, refl}
 use mathlib.Core.Logic.{⊎-elim}
 use mathlib.Core.List.{List}
-use Prim.Native.Nat.{_<_}
+use Prim.Native.Nat.{_/_, _%_, _<_}
 use native.Mathlib.Omega.{arith}
 use lib.ListN.{getD}
 use borrow.Author.Needs.{needs}
 use Rattle.meaning.specs.declared.Run.{Run}
 use Rattle.table.specs.Rows.{runsIn}
-use Rattle.table.specs.Heads.{done, Heads}
+use Rattle.table.specs.Heads.{done}
+use Rattle.table.specs.Tree.{Standing}
 use Rattle.table.proofs.Keys.{run-count}
-use Rattle.table.proofs.HeadRow.{heads-set}
-use Rattle.table.proofs.Turns.{SoFar, Chosen, left, movedOn, left-falls, so-far-start, chosen, so-far-room}
+use Rattle.table.proofs.Tree.{standing-put}
+use Rattle.table.proofs.Turns.{SoFar, Chosen, left, movedOn, left-falls, so-far-start, first-chosen, so-far-room}
 use Rattle.table.proofs.Turns.{so-far-stair, so-far-covered, so-far-end, moving-on}
 use Rattle.table.proofs.merge.merge_rows.Statement.{statement}
 use Rattle.table.proofs.merge.merge_rows.Tie as tie
 
 abbrev Inv-loop : tie.InvT-loop
-Inv-loop start len n cycle keys₀ pos₀ far₀ tot₀ made₀ top₀ keys pos far tot made top =
-    Heads cycle (runsIn start len n) pos keys × SoFar cycle (runsIn start len n) pos far tot made top
+Inv-loop start len n cycle tree₀ pos₀ far₀ tot₀ made₀ top₀ low₀ tree pos far tot made top low =
+    Standing cycle (runsIn start len n) pos tree × SoFar cycle (runsIn start len n) pos far tot made top
+    × (low ≡ getD tree 1 0)
 
 abbrev μ-loop : tie.MeasureT-loop
-μ-loop start len n cycle keys₀ pos₀ far₀ tot₀ made₀ top₀ keys pos far tot made top = left n pos
+μ-loop start len n cycle tree₀ pos₀ far₀ tot₀ made₀ top₀ low₀ tree pos far tot made top low = left n pos
 
 -- the runs
 abbrev runs : tie.Start Inv-loop μ-loop → List Run
 runs c = runsIn (c .args .start .now) (c .args .len .now) (c .args .n)
 
--- the row that was chosen has the nearest head
+-- the row that the least leaf names has the nearest head
 chose : (c : tie.After-total-of Inv-loop μ-loop)
     → Chosen
-    (c .before .before .before .before .before .before .args .cycle)
-    (runs (c .before .before .before .before .before .before))
-    (c .before .before .before .before .loop .pos)
-    (c .before .before .nearest .result)
-    (getD (c .before .before .before .before .loop .keys) (c .before .before .nearest .result) 0)
+    (c .before .before .before .before .args .cycle)
+    (runs (c .before .before .before .before))
+    (c .before .before .loop .pos)
+    (c .before .before .loop .low % 32)
+    (c .before .before .loop .low / 32)
 unfolding done
 chose c =
-    let near = c .before .before .nearest in
-    let h = c .before .before .before .before in
-    let f = h .before .before .pre in
-    chosen (f .runs-fit) (h .loop .inv .0) (near .result) (near .ensures .0)
-    (λ k l. near .ensures .1 k (omega (arith, run-count f))) (c .before .if1 .left)
+    let h = c .before .before in
+    first-chosen (h .before .before .pre .runs-fit) (h .loop .inv .0) (h .loop .low) (h .loop .inv .2)
+    (c .before .loop-test .taken)
 
 -- the table has room for it
-room : (c : tie.Then2 Inv-loop μ-loop) → c .before .before .before .before .before .loop .made < 993
+room : (c : tie.Then1 Inv-loop μ-loop) → c .before .before .before .loop .made < 993
 room c =
     let a = c .before in
-    let h = a .before .before .before .before in
-    so-far-room (h .before .before .pre .runs-fit) (h .loop .inv .1) (chose a) (h .loop .inv .0 .rows) _
-    (a .total-of .ensures) (c .if2 .taken)
+    let h = a .before .before in
+    so-far-room (h .before .before .pre .runs-fit) (h .loop .inv .1) (chose a) (h .loop .inv .0 .heads .rows) _
+    (a .total-of .ensures) (c .if1 .taken)
 
 -- the stairs with it, or without it where it is covered
-so-far : (c : tie.Joined2 Inv-loop μ-loop)
+so-far : (c : tie.Joined1 Inv-loop μ-loop)
     → SoFar
-    (c .before .before .before .before .before .before .before .args .cycle)
-    (runs (c .before .before .before .before .before .before .before))
-    (movedOn (c .before .before .before .before .before .loop .pos) (c .before .before .before .nearest .result))
-    (c .if2 .far)
-    (c .if2 .tot)
-    (c .if2 .made)
-    (c .if2 .top)
+    (c .before .before .before .before .before .args .cycle)
+    (runs (c .before .before .before .before .before))
+    (movedOn (c .before .before .before .loop .pos) (c .before .before .before .loop .low % 32))
+    (c .if1 .far)
+    (c .if1 .tot)
+    (c .if1 .made)
+    (c .if1 .top)
 so-far c =
     let a = c .before in
-    let h = a .before .before .before .before in
+    let h = a .before .before in
     let f = h .before .before .pre .runs-fit in
+    let long = h .loop .inv .0 .heads .rows in
     ⊎-elim
     (λ w. rw (w .2, w .3, w .4, w .5)
-    (so-far-stair f (h .loop .inv .1) (chose a) (h .loop .inv .0 .rows) _ (a .total-of .ensures) (w .0 .taken) _
-    (w .1 .ensures)))
+    (so-far-stair f (h .loop .inv .1) (chose a) long _ (a .total-of .ensures) (w .0 .taken) _ (w .1 .ensures)))
     (λ w. rw (w .1, w .2, w .3, w .4)
-    (so-far-covered f (h .loop .inv .1) (chose a) (h .loop .inv .0 .rows) _ (a .total-of .ensures) (w .0 .left)))
-    (c .if2 .came)
+    (so-far-covered f (h .loop .inv .1) (chose a) long _ (a .total-of .ensures) (w .0 .left)))
+    (c .if1 .came)
 
 heads-requires : tie.Need-heads-requires Inv-loop μ-loop
 heads-requires c κs = search needs
 
+array-read-low : tie.Need-array-read-low Inv-loop μ-loop
+array-read-low c = search needs
+
 loop-holds : tie.Need-loop-holds Inv-loop μ-loop
-loop-holds c = (c .heads .ensures, so-far-start (c .before .pre .runs-fit))
-
-nearest-requires : tie.Need-nearest-requires Inv-loop μ-loop
-nearest-requires c κs = search needs
-
-mul-k : tie.Need-mul-k Inv-loop μ-loop
-mul-k c = search needs
-
-array-read-k : tie.Need-array-read-k Inv-loop μ-loop
-array-read-k c = search needs
+loop-holds c = (c .heads .ensures, so-far-start (c .before .pre .runs-fit), refl)
 
 total-of-requires : tie.Need-total-of-requires Inv-loop μ-loop
 total-of-requires c κs = search needs
@@ -115,7 +110,7 @@ array-read-j c = search needs
 
 add-j : tie.Need-add-j Inv-loop μ-loop
 add-j c =
-    let f = c .before .before .before .before .before .before .before .pre in
+    let f = c .before .before .before .before .before .pre in
     omega (arith, chose (c .before) .near .live, f .runs-fit .few)
 
 mul-pos : tie.Need-mul-pos Inv-loop μ-loop
@@ -126,40 +121,38 @@ array-write-pos c = search needs
 
 head-requires : tie.Need-head-requires Inv-loop μ-loop
 head-requires c κs =
-    let f = c .before .before .before .before .before .before .before .pre in
+    let f = c .before .before .before .before .before .pre in
     let s = chose (c .before) in
     moving-on f s (omega (arith, s .near .row, run-count f)) _ (c .before .total-of .ensures)
 
-mul-keys : tie.Need-mul-keys Inv-loop μ-loop
-mul-keys c = search needs
-
-array-write-keys : tie.Need-array-write-keys Inv-loop μ-loop
-array-write-keys c = search needs
+put-requires : tie.Need-put-requires Inv-loop μ-loop
+put-requires c κs =
+    let h = c .before .before .before .before .before in
+    (h .loop .inv .0 .nodes .long, omega arith, omega (arith, c .before .head .ensures))
 
 loop-less : tie.Need-loop-less Inv-loop μ-loop
 loop-less c =
     let h = c .before .before .before .before .before .before in
     let f = h .before .before .pre in
-    let s = chose (c .before .before) in
-    left-falls _ _ _ (omega (arith, h .loop .inv .0 .rows, f .within)) (omega (arith, s .near .row, run-count f))
-    (omega (arith, s .near .live, run-count f))
+    let s = chose (c .before .before .before .before) in
+    left-falls _ _ _ (omega (arith, h .loop .inv .0 .heads .rows, f .within))
+    (omega (arith, s .near .row, run-count f)) (omega (arith, s .near .live, run-count f))
 
 loop-again : tie.Need-loop-again Inv-loop μ-loop
 loop-again c =
-    let h = c .before .before .before .before .before .before in (
-      rw (c .head .ensures)
-          (heads-set (h .loop .inv .0) _ _ (c .before .before .before .before .nearest .ensures .0)),
-      so-far (c .before),
+    let h = c .before .before .before .before .before .before in
+    let v = c .before .before .head in (
+      standing-put (h .loop .inv .0) _ _ (v .result) (omega arith) (v .ensures) (c .put .ensures .2),
+      so-far (c .before .before .before),
+      c .put .ensures .0,
     )
 
 returns : tie.Need-returns Inv-loop μ-loop
 unfolding done
 returns c =
-    let near = c .before .nearest in
-    let h = c .before .before .before in
-    let f = h .before .before .pre in
-    so-far-end (f .runs-fit) (h .loop .inv .1) (h .loop .inv .0) (near .result)
-    (λ k l. near .ensures .1 k (omega (arith, run-count f))) (c .if1 .taken)
+    let h = c .before in
+    so-far-end (h .before .before .pre .runs-fit) (h .loop .inv .1) (h .loop .inv .0) (h .loop .low) (h .loop .inv .2)
+    (c .loop-test .left)
 
 pub merge-rows-spec : {M : Type 1} → statement M
 merge-rows-spec =
@@ -168,10 +161,8 @@ merge-rows-spec =
     Inv-loop
     μ-loop
     heads-requires
+    array-read-low
     loop-holds
-    nearest-requires
-    mul-k
-    array-read-k
     total-of-requires
     far-of-requires
     mul-far
@@ -185,8 +176,7 @@ merge-rows-spec =
     mul-pos
     array-write-pos
     head-requires
-    mul-keys
-    array-write-keys
+    put-requires
     loop-less
     loop-again
     returns)
