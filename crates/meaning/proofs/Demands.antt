@@ -8,12 +8,12 @@ use native.Mathlib.Nat.{le-refl, le-trans, add-zero}
 use native.Mathlib.Omega.{arith}
 use Rattle.laws.specs.Lists.{total, Mem}
 use Rattle.laws.specs.Numbers.{Least, Mono}
-use Rattle.laws.proofs.Leasts.{least-some, least-none, least-found, Under, under-step, under-least, under-over}
+use Rattle.laws.proofs.Leasts.{least-found, Under, under-step, under-least, under-over}
 use Rattle.meaning.specs.declared.Stream.{Stream}
 use Rattle.meaning.specs.Ranges.{horizon}
 use Rattle.meaning.specs.Wire.{wireTime}
 use Rattle.meaning.specs.Response.{ahead, load, busyLoad, window, waitLoad, bound}
-use Rattle.meaning.proofs.Responses.{load-mono, endless-iff, busy-mono, wait-later}
+use Rattle.meaning.proofs.Responses.{load-mono, window-some, window-none, endless-iff, busy-mono, wait-later}
 use Rattle.meaning.proofs.Later.{steady, later-steady, load-steady}
 use Rattle.meaning.proofs.FewFrames.{calmLoad}
 
@@ -66,12 +66,10 @@ module _ (rate : ℕ) (v : ℕ → ℕ) (L : ℕ) (rest : List Stream) (i : Stre
 
   -- a search that has come to y finds the window where y closes, and finds that there is none past the horizon
   pub window-found : (y : ℕ) → Under busy y → busy y ≤ y → y ≤ horizon → window rate v L rest i ≡ some y
-  unfolding window
-  window-found y u c h = least-some busy horizon y .1 (under-least u c, h)
+  window-found y u c h = window-some rate v L rest i y .1 (under-least u c, h)
 
   pub window-over : (y : ℕ) → Under busy y → horizon < y → window rate v L rest i ≡ none
-  unfolding window
-  window-over y u h = least-none busy horizon .1 (under-over u h)
+  window-over y u h = window-none rate v L rest i .1 (under-over u h)
 
   pub endless-over : (y : ℕ) → Under busy y → horizon < y → bound rate v L rest i ≡ none
   endless-over y u h = endless-iff rate v L rest i .1 (under-over u h)

@@ -184,10 +184,14 @@ module _ (id priority deadline : ℕ) where
       × (response 2 (interference g []) 0 [] s₈ 40_000 4 ≡ some 10_000)
   responses-alone g = rw (silent g) responses₈
 
+  gate-alone : (g : Gate) (js : List Stream) → gateOf (port₈ g) js ≡ g
+  unfolding gateOf
+  gate-alone g js = refl
+
   bound-alone : (g : Gate) → boundOf (port₈ g) [] (s₈ ∷ []) s₈ ≡ some 20_000
-  unfolding boundOf gateOf others keep lowerWire largest
+  unfolding boundOf others keep lowerWire largest
   bound-alone g =
-      rw (eq-eqb id id refl)
+      rw (eq-eqb id id refl, gate-alone g (s₈ ∷ []))
       (rw (silent g) bound₈)
 
 -- ---- the horizon's edge, at an interference of 0
@@ -230,6 +234,11 @@ module _ (rate : ℕ) (v : ℕ → ℕ) (L : ℕ) (rest : List Stream) (i : Stre
       ∙ rw (one, response-some rate v L rest i rest-pos b 1 w lb (lit≤ tt) (omega arith) lw)
       (ap {B = Option ℕ} some (omega arith))
 
+-- F's gate numbers, whatever streams are held
+pub gate-F : (js : List Stream) → gateOf portF js ≡ gateF
+unfolding gateOf
+gate-F js = refl
+
 abbrev quickF : ℕ → ℕ
 quickF = quick 100_000 runsF
 
@@ -244,29 +253,30 @@ long i h j m = in-cons m (λ e. subst (λ (k : Stream). 0 < k .period) (sym e) h
 
 pub boundF₁ : boundOf portF slotsF (streamF₁ ∷ streamF₂ ∷ []) streamF₁ ≡ some 44_000
 unfolding
-    boundOf gateOf others ahead keep lowerWire largest busyLoad waitLoad load total mostIn earliest wireTime extraOctets
+    boundOf others ahead keep lowerWire largest busyLoad waitLoad load total mostIn earliest wireTime extraOctets
     tenOctets iter quick met allLen horizon
 boundF₁ =
-    rw VF
+    rw (gate-F (streamF₁ ∷ streamF₂ ∷ []), VF)
     (bound-single 2 quickF 20_000 (streamF₂ ∷ []) streamF₁ (long streamF₂ (lit< tt)) quickF-grows (lit< tt) 8 44_000
     refl (lit≤ tt) (lit≤ tt) refl 8 34_000 refl (lit≤ tt))
 
 pub boundF₂ : boundOf portF slotsF (streamF₁ ∷ streamF₂ ∷ []) streamF₂ ≡ some 44_000
 unfolding
-    boundOf gateOf others ahead keep lowerWire largest busyLoad waitLoad load total mostIn earliest wireTime extraOctets
+    boundOf others ahead keep lowerWire largest busyLoad waitLoad load total mostIn earliest wireTime extraOctets
     tenOctets iter quick met allLen horizon
 boundF₂ =
-    rw VF
+    rw (gate-F (streamF₁ ∷ streamF₂ ∷ []), VF)
     (bound-single 2 quickF 0 (streamF₁ ∷ []) streamF₂ (long streamF₁ (lit< tt)) quickF-grows (lit< tt) 8 44_000
     refl (lit≤ tt) (lit≤ tt) refl 8 24_000 refl (lit≤ tt))
 
 -- ---- F's octets
 
 freeF : hasFree (gateOf portF (streamF₁ ∷ streamF₂ ∷ [])) slotsF ≡ true
-unfolding gateOf chainRuns chainFrom runAt runOf broken lastEnd hangEnd
+unfolding chainRuns chainFrom runAt runOf broken lastEnd hangEnd
 freeF =
-    free-has-run gateF (slot 10_000 14_000) (slot 30_000 32_500 ∷ slot 60_000 68_500 ∷ []) (omega arith) .0
-    (run 9_000 5_500, List·Memᴰ·head refl)
+    rw (gate-F (streamF₁ ∷ streamF₂ ∷ []))
+    (free-has-run gateF (slot 10_000 14_000) (slot 30_000 32_500 ∷ slot 60_000 68_500 ∷ []) (omega arith) .0
+    (run 9_000 5_500, List·Memᴰ·head refl))
 
 soundF : Sound portF slotsF (streamF₁ ∷ streamF₂ ∷ [])
 unfolding portRanges streamRanges octetLimit mostSlots mostStreams every

@@ -29,7 +29,7 @@ use Rattle.meaning.specs.Findings.{verdictWords, streamLine, refusedLine
 use Rattle.meaning.specs.Figures.{octetsF, portF, slotsF, streamF₁, streamF₂, run, stair}
 use Rattle.meaning.proofs.Cuts.{cut-same}
 use Rattle.meaning.proofs.Decimals.{decimal-digits}
-use Rattle.meaning.proofs.Figured.{figures, gateF, are-runsF, are-stairsF, boundF₁, boundF₂}
+use Rattle.meaning.proofs.Figured.{gate-F, figures, gateF, are-runsF, are-stairsF, boundF₁, boundF₂}
 
 -- "It takes the first 4,096 octets only; a longer input has met its refusal by then, and this is proved."
 pub findings-cut : (input : List ℕ) → findings (take 4_096 input) ≡ findings input
@@ -142,8 +142,8 @@ is-textF : deskLines portF slotsF (streamF₁ ∷ streamF₂ ∷ [])
     ≡ textF (runs gateF slotsF) (stairs gateF slotsF)
     (boundOf portF slotsF (streamF₁ ∷ streamF₂ ∷ []) streamF₁)
     (boundOf portF slotsF (streamF₁ ∷ streamF₂ ∷ []) streamF₂)
-unfolding deskLines blockedLine joined gateOf textF
-is-textF = refl
+unfolding deskLines blockedLine joined textF
+is-textF = rw (gate-F (streamF₁ ∷ streamF₂ ∷ []))
 
 -- "Whole output", line by line
 abbrev pub outputF : List ℕ

@@ -9,7 +9,7 @@ use native.Mathlib.Nat.{le-antisymm, mul-le-mul-right}
 use native.Mathlib.Decide.{decLe}
 use native.Mathlib.Omega.{arith}
 use Rattle.laws.specs.Lists.{Mem}
-use Rattle.laws.specs.Numbers.{largestTo, Least, Mono}
+use Rattle.laws.specs.Numbers.{largestTo, leastUpTo, Least, Mono}
 use Rattle.laws.proofs.Lists.{total-le}
 use Rattle.laws.proofs.Keeping.{keep-mem}
 use Rattle.laws.proofs.Leasts.{least-unique, least-some, least-none, least-found, Under, largestTo-ge, largestTo-met}
@@ -59,9 +59,15 @@ module _ (rate : ℕ) (v : ℕ → ℕ) (L : ℕ) (rest : List Stream) (i : Stre
   abbrev Endless : Type 0
   Endless = (x : ℕ) → x ≤ horizon → ¬ (busy x ≤ x)
 
-  pub window-some : (b : ℕ) → window rate v L rest i ≡ some b ↔ (Least busy b × (b ≤ horizon))
+  window-is : window rate v L rest i ≡ leastUpTo busy horizon
   unfolding window
-  window-some b = least-some busy horizon b
+  window-is = refl
+
+  pub window-some : (b : ℕ) → window rate v L rest i ≡ some b ↔ (Least busy b × (b ≤ horizon))
+  window-some b = rw window-is (least-some busy horizon b)
+
+  pub window-none : window rate v L rest i ≡ none ↔ Endless
+  window-none = rw window-is (least-none busy horizon)
 
   -- where the busy window ends by the horizon, the bound is the largest response in it
   pub bound-some : (b : ℕ) → Least busy b → b ≤ horizon → bound rate v L rest i ≡ some (boundIn rate v L rest i b)
@@ -70,8 +76,8 @@ module _ (rate : ℕ) (v : ℕ → ℕ) (L : ℕ) (rest : List Stream) (i : Stre
 
   -- "If no such x up to the horizon exists, the stream is endless."
   pub endless-iff : bound rate v L rest i ≡ none ↔ Endless
-  unfolding window bound
-  endless-iff = Iff·trans (map-eq-none-iff _ _) (least-none busy horizon)
+  unfolding bound
+  endless-iff = Iff·trans (map-eq-none-iff _ _) window-none
 
   module _ (rest-pos : (j : Stream) → Mem j rest → 0 < j .period) where
     other-mono : Mono (load rate (ahead i rest))
