@@ -15,16 +15,17 @@ use Rattle.meaning.specs.declared.Stream.{Stream}
 use Rattle.meaning.specs.Wire.{wireTime}
 use Rattle.meaning.specs.Response.{ahead, lowerWire, bound}
 use Rattle.meaning.proofs.Wires.{wire-pos}
-use Rattle.bound.specs.declared.Ahead.{Ahead}
+use Rattle.ahead.specs.declared.Ahead.{Ahead}
 use Rattle.bound.specs.declared.Response.{Response}
-use Rattle.bound.specs.declared.Sizes.{Sizes}
-use Rattle.bound.specs.declared.Own.{Own}
-use Rattle.bound.specs.Unpacked.{aheadOf}
-use Rattle.bound.specs.Rows.{rowStream, RowIn, RowsFit}
-use Rattle.bound.specs.Searches.{tableV, tableOf, OwnFits}
-use Rattle.bound.specs.Answers.{responseOf, StreamFits, Asks, RowsOf, Beside, BoundFor, RowsAsk}
-use Rattle.bound.proofs.Rated.{wire-fits}
-use Rattle.bound.proofs.RowStreams.{row-at}
+use Rattle.search.specs.declared.Sizes.{Sizes}
+use Rattle.search.specs.declared.Own.{Own}
+use Rattle.ahead.specs.Unpacked.{aheadOf}
+use Rattle.arrivals.specs.Rows.{rowStream, RowIn, RowsFit}
+use Rattle.search.specs.Searches.{tableV, tableOf, OwnFits}
+use Rattle.frames.specs.Windows.{RowsOf, Beside}
+use Rattle.bound.specs.Answers.{responseOf, StreamFits, Asks, BoundFor, RowsAsk}
+use Rattle.ahead.proofs.Rated.{wire-fits}
+use Rattle.frames.proofs.RowStreams.{row-at}
 
 -- rows of the numbers of a list of streams
 module _ (js : List Stream) where

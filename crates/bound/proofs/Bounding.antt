@@ -14,11 +14,12 @@ use Rattle.meaning.proofs.Arrivals.{counted, most-grows}
 use Rattle.meaning.proofs.Responses.{endless-iff, bound-some}
 use Rattle.meaning.proofs.FewFrames.{Enough, few-frames}
 use Rattle.bound.specs.declared.Response.the-variants.{Within, Endless}
-use Rattle.bound.specs.declared.Own.{Own}
-use Rattle.bound.specs.Rows.{RowIn, RowsFit}
-use Rattle.bound.specs.Searches.{OwnFits, ownStream, rowBusy, Settled}
-use Rattle.bound.specs.Answers.{responseOf, Beside, BesideIn, EnoughOf, WorstFor, BoundFor}
-use Rattle.bound.proofs.RowStreams.{most-own, later-own, busy-rows, calm-rows}
+use Rattle.search.specs.declared.Own.{Own}
+use Rattle.arrivals.specs.Rows.{RowIn, RowsFit}
+use Rattle.search.specs.Searches.{OwnFits, ownStream, rowBusy, Settled}
+use Rattle.frames.specs.Windows.{Beside, BesideIn, WorstFor}
+use Rattle.bound.specs.Answers.{responseOf, EnoughOf, BoundFor}
+use Rattle.frames.proofs.RowStreams.{most-own, later-own, busy-rows, calm-rows}
 
 -- ---- a row without jitter
 

@@ -1,11 +1,3 @@
 pub mod Others
-pub mod Rated
-pub mod Unpacking
-pub mod Arriving
-pub mod Places
-pub mod Counting
-pub mod Searching
-pub mod RowStreams
-pub mod Framing
 pub mod Bounding
 pub mod Asking

@@ -1,24 +1,23 @@
 -- What is asked about a stream, and what is answered.
 use mathlib.Core.Path.{_≡_}
 use mathlib.Core.Logic.{_⊎_}
-use mathlib.Core.List.{List, map}
+use mathlib.Core.List.{List}
 use mathlib.Core.Option.{Option, none, some}
-use Prim.Native.Nat.{ℕ, _+_, _≤_, _<_}
-use lib.ListN.{length, take}
+use Prim.Native.Nat.{ℕ, _+_, _≤_}
+use lib.ListN.{take}
 use Rattle.laws.specs.Lists.{Mem}
-use Rattle.laws.specs.Numbers.{Least, Mono}
+use Rattle.laws.specs.Numbers.{Mono}
 use Rattle.meaning.specs.declared.Stream.{Stream}
-use Rattle.meaning.specs.Wire.{wireTime}
 use Rattle.meaning.specs.Arrivals.{mostIn}
-use Rattle.meaning.specs.Response.{ahead, busyLoad, bound}
-use Rattle.meaning.proofs.FewFrames.{worstOf}
+use Rattle.meaning.specs.Response.{bound}
 use Rattle.table.specs.Lookup.{allIn, TableFits}
 use Rattle.bound.specs.declared.Response.{Response}
 use Rattle.bound.specs.declared.Response.the-variants.{Within, Endless}
-use Rattle.bound.specs.declared.Sizes.{Sizes}
-use Rattle.bound.specs.declared.Own.{Own}
-use Rattle.bound.specs.Rows.{RowsFit}
-use Rattle.bound.specs.Searches.{tableV, tableOf, OwnFits, ownStream, calmOwn, rowBusy}
+use Rattle.search.specs.declared.Sizes.{Sizes}
+use Rattle.search.specs.declared.Own.{Own}
+use Rattle.arrivals.specs.Rows.{RowsFit}
+use Rattle.search.specs.Searches.{tableV, tableOf, OwnFits, ownStream, calmOwn, rowBusy}
+use Rattle.frames.specs.Windows.{Beside}
 
 -- ---- the answer
 
@@ -49,34 +48,6 @@ pub record Asks (rate cycle : ℕ) (far tot : List ℕ) (m : ℕ) (streams : Lis
   pub streams-fit : (j : Stream) → Mem j (take n streams) → StreamFits j
   pub own-fits : StreamFits own
 
--- ---- the streams that rows of numbers stand for
-
--- the first n numbers of the rows are the periods, the jitters and the wire times of these streams
-pub record RowsOf (rate : ℕ) (js : List Stream) (per jit cost : List ℕ) (n : ℕ) : Type 0 where
-  pub many : n ≡ length js
-  pub periods : take n per ≡ map (λ j. j .period) js
-  pub jitters : take n jit ≡ map (λ j. j .jitter) js
-  pub costs : take n cost ≡ map (λ j. wireTime rate (j .octets)) js
-
--- the stream asked about, and others beside it: the rows stand for those of equal or higher priority
-pub record Beside (o : Own) (per jit cost : List ℕ) (n : ℕ) : Type 0 where
-  pub rate : ℕ
-  pub own : Stream
-  pub rest : List Stream
-  pub wire-is : o .wire ≡ wireTime rate (own .octets)
-  pub period-is : o .period ≡ own .period
-  pub jitter-is : o .jitter ≡ own .jitter
-  pub rows : RowsOf rate (ahead own rest) per jit cost n
-  pub some-period : (j : Stream) → Mem j rest → 0 < j .period
-
--- and its busy window, with that many frames from the last that can come at 0 on
-pub record BesideIn (v : ℕ → ℕ) (o : Own) (per jit cost : List ℕ) (n frames : ℕ) : Type 0 where
-  pub beside : Beside o per jit cost n
-  pub b : ℕ
-  pub busy : Least (busyLoad (beside .rate) v (o .lower) (beside .rest) (beside .own)) b
-  pub ends : b ≤ 100_000_000
-  pub inside : mostIn (beside .own) 0 + frames ≤ mostIn (beside .own) b + 1
-
 -- ---- what is computed from rows of numbers
 
 -- how many frames are enough of those that a busy window has: all, or, where z closes the calm window, one and as
@@ -85,13 +56,6 @@ abbrev pub EnoughOf : (v : ℕ → ℕ) (per calm cost : List ℕ) (n : ℕ) (o 
 EnoughOf v per calm cost n o all r =
     (r ≡ all)
     ⊎ ((z : ℕ) × (rowBusy v per calm cost n (calmOwn o) z ≤ z) × (mostIn (ownStream (calmOwn o)) z + 1 ≤ r))
-
--- r is the largest response of that many frames, whichever streams the numbers stand for
-abbrev pub WorstFor : (v : ℕ → ℕ) (o : Own) (per jit cost : List ℕ) (n frames r : ℕ) → Type 0
-WorstFor v o per jit cost n frames r =
-    (s : BesideIn v o per jit cost n frames)
-    → r ≡ worstOf (s .beside .rate) v (o .lower) (s .beside .rest) (s .beside .own) (s .b) (mostIn (s .beside .own) 0)
-    frames
 
 -- r is the response bound, whichever streams the numbers stand for
 abbrev pub BoundFor : (v : ℕ → ℕ) (o : Own) (per jit cost : List ℕ) (n : ℕ) → Response → Type 0

@@ -1,4 +1,1 @@
-pub mod Unpacked
-pub mod Rows
-pub mod Searches
 pub mod Answers

@@ -1,101 +1,76 @@
--- What an edit hands back, from the meaning's answer: a refusal and the unchanged desk, or the desk made.
+-- What an edit hands back, from the reply of the entries: the unchanged desk, or the desk made, stairs built or kept.
 -- Assumes nothing.
 use mathlib.Core.Path.{_≡_, refl, sym, ap, subst, _∙_}
 use mathlib.Core.Bool.{true}
-use Prim.Native.Nat.{ℕ}
-use native.Mathlib.Omega.{arith}
-use Rattle.meaning.specs.declared.Refusal.{Refusal}
 use Rattle.meaning.specs.Refusals.{Answer, accepted, refused}
 use Rattle.meaning.specs.Desks.{edited}
 use Rattle.meaning.specs.Desks.{Desk as Plan}
 use Rattle.meaning.specs.Promises.{SoundDesk}
+use Rattle.entries.specs.declared.Entries.{Entries}
+use Rattle.entries.specs.declared.Verdict.the-variants.{Accepted}
+use Rattle.entries.specs.declared.EntriesReply.{EntriesReply}
+use Rattle.entries.specs.Entries.{entriesOf, heldIn, FitEntries, entriesReply}
+use Rattle.entries.proofs.Opened.{held-of-entries}
 use Rattle.desk.specs.declared.Desk.{Desk}
-use Rattle.desk.specs.declared.Verdict.the-variants.{Accepted, Refused}
 use Rattle.desk.specs.declared.EditReply.{EditReply}
 use Rattle.desk.specs.Desks.{deskOf, held, Fit, editReply}
-use Rattle.desk.specs.Edits.{keepingStairs, FitButStairs, accepting, refusing, holdReply}
-use Rattle.desk.proofs.Held.{fit-of}
-use Rattle.desk.proofs.Opened.{held-keeping, keeping-fit, fit-but-stairs}
+use Rattle.desk.specs.Edits.{entriesIn, withEntries, accepting, refusing, answered}
+use Rattle.desk.proofs.Held.{fit-of, held-in-entries, fit-entries}
 
--- the reply r to an edit that the meaning answers by a: with the stairs of what is held, and with the stairs left
-abbrev pub Edits : Desk → Answer Plan → EditReply → Type 0
-Edits d a r = (r ≡ editReply (edited (held d) a)) × Fit (r .desk)
+-- the reply r to a call on the desk d
+abbrev pub Edits : (Plan → Answer Plan) → Desk → EditReply → Type 0
+Edits call d r = (r ≡ editReply (edited (held d) (call (held d)))) × Fit (r .desk)
 
-abbrev pub Holds : Desk → Answer Plan → EditReply → Type 0
-Holds d a r = (r ≡ holdReply d (edited (held d) a)) × FitButStairs (r .desk)
+-- the desk is fit, and its entries are e
+module _ (d : Desk) (f : Fit d) (e : Entries) (q : e ≡ entriesIn d) where
+  pub may-edit : FitEntries e
+  may-edit = subst FitEntries (sym q) (fit-entries d f)
 
-module _ (d : Desk) (a : Answer Plan) (r : EditReply) where
-  pub refusal-edits : (why : Refusal) → Fit d → r ≡ refusing d why → a ≡ refused why → Edits d a r
-  unfolding edited
-  refusal-edits why f e q =
-      (rw (e, q) (ap (λ (x : Desk). refusing x why) (f .canonical)), rw e f)
+  same-held : heldIn e ≡ held d
+  same-held = ap heldIn q ∙ held-in-entries d
 
-  pub refusal-holds : (why : Refusal) → FitButStairs d → r ≡ refusing d why → a ≡ refused why → Holds d a r
-  unfolding edited
-  refusal-holds why f e q =
-      (rw (e, q) (ap (λ (x : Desk). refusing x why) (f .canonical)), rw e f)
+  -- the same call on the entries was answered by m
+  module _ (call : Plan → Answer Plan) (m : EntriesReply)
+      (k : (m ≡ entriesReply (edited (heldIn e) (call (heldIn e)))) × FitEntries (m .entries)) where
+    same-reply : m ≡ entriesReply (edited (held d) (call (held d)))
+    same-reply = k .0 ∙ ap (λ (y : Plan). entriesReply (edited y (call y))) same-held
 
-  pub acceptance-edits : (e : Plan) → SoundDesk e → r ≡ accepting (deskOf e) → a ≡ accepted e → Edits d a r
-  unfolding edited
-  acceptance-edits e s k q = (rw (k, q), rw k (fit-of e s))
+    holds-made : (x : Plan) → m .entries ≡ entriesOf x → heldIn (m .entries) ≡ x
+    holds-made x b = ap heldIn b ∙ held-of-entries x
 
-  pub acceptance-holds : (e : Plan) → SoundDesk e → r ≡ accepting (keepingStairs d e) → a ≡ accepted e → Holds d a r
-  unfolding edited
-  acceptance-holds e s k q = (rw (k, q), rw k (keeping-fit d e s))
+    -- from the desk made, where the call was accepted
+    edit : (made : Desk) → ((x : Plan) → call (held d) ≡ accepted x → m .entries ≡ entriesOf x → made ≡ deskOf x)
+        → (r : EditReply) → r ≡ answered d made (m .verdict) → Edits call d r
+    unfolding edited answered
+    edit made same r b = go (call (held d)) refl same-reply
+      where
+        go : (a : Answer Plan) → call (held d) ≡ a → m ≡ entriesReply (edited (held d) a) → Edits call d r
+        go (accepted x) p l =
+            let n : m .entries ≡ entriesOf x = ap (λ (z : EntriesReply). z .entries) l in
+            let t : r ≡ accepting (deskOf x) =
+            b ∙ ap (answered d made) (ap (λ (z : EntriesReply). z .verdict) l) ∙ ap accepting (same x p n) in
+            (rw (t, p), rw t (fit-of x (subst SoundDesk (holds-made x n) (k .1 .sound))))
+        go (refused why) p l =
+            let t : r ≡ refusing d why = b ∙ ap (answered d made) (ap (λ (z : EntriesReply). z .verdict) l) in
+            (rw (t, p) (ap (λ (z : Desk). refusing z why) (f .canonical)), rw t f)
 
-  -- the stairs built behind an edit of the slots
-  pub stairs-edit : (e : Plan) (w : Desk) → SoundDesk e → w ≡ keepingStairs d e → r ≡ accepting (deskOf (held w))
-      → a ≡ accepted e → Edits d a r
-  stairs-edit e w s b k q =
-      acceptance-edits e s (k ∙ ap (λ (x : Plan). accepting (deskOf x)) (ap held b ∙ held-keeping d e)) q
+    -- the stairs may be built, where the desk made is open
+    pub may-get-stairs : ((y x : Plan) → call y ≡ accepted x → entriesOf x .opened ≡ true)
+        → FitEntries (m .entries) × (m .verdict ≡ Accepted → m .entries .opened ≡ true)
+    unfolding edited
+    may-get-stairs opens = (k .1, go (call (held d)) refl same-reply)
+      where
+        go : (a : Answer Plan) → call (held d) ≡ a → m ≡ entriesReply (edited (held d) a) → m .verdict ≡ Accepted
+            → m .entries .opened ≡ true
+        go (accepted x) p l v = ap (λ (z : EntriesReply). z .entries .opened) l ∙ opens (held d) x p
+        go (refused why) p l v = let n = ap (λ (z : EntriesReply). z .verdict) l in cc
 
--- ---- an edit in two parts
+    pub built-edit : (r : EditReply) → r ≡ answered d (deskOf (heldIn (m .entries))) (m .verdict) → Edits call d r
+    built-edit r b = edit (deskOf (heldIn (m .entries))) (λ x p n. ap deskOf (holds-made x n)) r b
 
--- what an accepted edit held
-made-by : (d : Desk) (a : Answer Plan) (m : EditReply) → m ≡ holdReply d (edited (held d) a) → m .verdict ≡ Accepted
-    → (e : Plan) × (a ≡ accepted e) × (m .desk ≡ keepingStairs d e)
-unfolding edited
-made-by d (accepted e) m k v = (e, refl, ap (λ (x : EditReply). x .desk) k)
-made-by d (refused why) m k v =
-    let q = ap (λ (x : EditReply). x .verdict) k in
-    let z : _≡_ {A = ℕ} 0 1 = cc in
-    absurd (omega arith)
-
--- what a refused edit was refused by
-refused-by : (d : Desk) (a : Answer Plan) (m : EditReply) (why : Refusal) → m ≡ holdReply d (edited (held d) a)
-    → m .verdict ≡ Refused why → a ≡ refused why
-unfolding edited
-refused-by d (accepted e) m why k v = let q = ap (λ (x : EditReply). x .verdict) k in cc
-refused-by d (refused x) m why k v = let q = ap (λ (y : EditReply). y .verdict) k in ap refused (cc)
-
-module _ (d : Desk) (a : Answer Plan) (m : EditReply) (made : Holds d a m) where
-  -- where its first part was accepted, the stairs are built
-  pub may-get-stairs : ((e : Plan) → a ≡ accepted e → deskOf e .opened ≡ true) → m .verdict ≡ Accepted
-      → FitButStairs (m .desk) × (m .desk .opened ≡ true)
-  unfolding keepingStairs
-  may-get-stairs opens v =
-      let (e, q, b) = made-by d a m (made .0) v in
-      (made .1, ap (λ (x : Desk). x .opened) b ∙ opens e q)
-
-  pub accepted-edits : (r : EditReply) → m .verdict ≡ Accepted → r ≡ accepting (deskOf (held (m .desk))) → Edits d a r
-  accepted-edits r v k =
-      let (e, q, b) = made-by d a m (made .0) v in
-      let s = subst SoundDesk (ap held b ∙ held-keeping d e) (made .1 .sound) in
-      stairs-edit d a r e (m .desk) s b k q
-
-  -- where it was refused, it stays refused
-  pub refused-edits : (r : EditReply) (why : Refusal) → Fit d → m .verdict ≡ Refused why → r ≡ refusing d why
-      → Edits d a r
-  refused-edits r why f v k = refusal-edits d a r why f k (refused-by d a m why (made .0) v)
-
--- ---- an edit that leaves the stairs as they are
-
-pub same-stairs-edit : (d : Desk) (a : Answer Plan) (r : EditReply) → Fit d → Holds d a r
-    → ((e : Plan) → a ≡ accepted e → keepingStairs d e ≡ deskOf e) → Edits d a r
-unfolding edited
-same-stairs-edit d (accepted e) r f (k, g) stay =
-    let s = subst SoundDesk (ap (λ (x : EditReply). held (x .desk)) k ∙ held-keeping d e) (g .sound) in
-    acceptance-edits d (accepted e) r e s (k ∙ ap accepting (stay e refl)) refl
-same-stairs-edit d (refused why) r f (k, g) stay =
-    let same = sym (fit-but-stairs d f .canonical) in
-    refusal-edits d (refused why) r why f (k ∙ ap (λ (x : Desk). refusing x why) same) refl
+    -- the stairs may be kept, where the call leaves them as they are
+    pub kept-edit : ((y x : Plan) → call y ≡ accepted x → withEntries (deskOf y) (entriesOf x) ≡ deskOf x)
+        → (r : EditReply) → r ≡ answered d (withEntries d (m .entries)) (m .verdict) → Edits call d r
+    kept-edit stay r b =
+        edit (withEntries d (m .entries))
+        (λ x p n. (λ i. withEntries (f .canonical i) (n i)) ∙ stay (held d) x p) r b

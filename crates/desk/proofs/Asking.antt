@@ -13,7 +13,7 @@ use Rattle.meaning.specs.Ranges.{horizon}
 use Rattle.meaning.specs.Runs.{runs}
 use Rattle.meaning.specs.Interference.{stairs}
 use Rattle.meaning.specs.Refusals.{Answer, accepted, refused, unless}
-use Rattle.meaning.specs.Desks.{bare, asked}
+use Rattle.meaning.specs.Desks.{asked}
 use Rattle.meaning.specs.Calls.{askRuns, askStairs, askInterference}
 use Rattle.gate.specs.declared.RunRow.{RunRow}
 use Rattle.gate.specs.Rows.{noRun, runRow}
@@ -21,17 +21,15 @@ use Rattle.gate.proofs.Rows.{row-none}
 use Rattle.table.specs.declared.Table.{Table}
 use Rattle.table.specs.Rows.{tableOf}
 use Rattle.table.proofs.Rows.{table-none, tableWith}
+use Rattle.entries.specs.declared.Verdict.the-variants as Verdicts
+use Rattle.entries.specs.Entries.{verdictOf}
 use Rattle.desk.specs.declared.Desk.{Desk}
-use Rattle.desk.specs.declared.Verdict.the-variants as Verdicts
 use Rattle.desk.specs.declared.Figure.the-variants as Figures
-use Rattle.desk.specs.Desks.{held, Fit, verdictOf, figureOf, rowsOf, runsReply, stairsReply, figureReply}
+use Rattle.desk.specs.Desks.{held, Fit, figureOf, rowsOf, runsReply, stairsReply, figureReply}
 use Rattle.desk.specs.Desks.{slotsIn, gateIn}
 use Rattle.desk.specs.Reach.{figureIn}
+use Rattle.desk.proofs.Held.{held-bare}
 use Rattle.desk.proofs.OpenFits.{tableIn, open-fits, fit-demand-three}
-
-closed-holds : (d : Desk) → d .opened ≡ false → held d ≡ bare
-unfolding held
-closed-holds d o = rw o
 
 -- ---- runs
 
@@ -50,7 +48,7 @@ module _ (d : Desk) (f : Fit d) where
         desk = d;
       } ≡ runsReply (asked (held d) (askRuns (held d)))
   unfolding askRuns
-  runs-closed o = runs-reply (refused OutOfTurn) (ap askRuns (closed-holds d o)) _ row-none
+  runs-closed o = runs-reply (refused OutOfTurn) (ap askRuns (held-bare d o)) _ row-none
 
   pub runs-open : d .opened ≡ true → (row : RunRow) → row ≡ runRow (runs (gateIn d) (slotsIn d))
       → record { verdict = Verdicts.Accepted; runs = row; desk = d } ≡ runsReply (asked (held d) (askRuns (held d)))
@@ -74,7 +72,7 @@ module _ (d : Desk) (f : Fit d) where
         desk = d;
       } ≡ stairsReply (asked (held d) (askStairs (held d)))
   unfolding askStairs
-  stairs-closed o = stairs-reply (refused OutOfTurn) (ap askStairs (closed-holds d o)) _ (sym table-none)
+  stairs-closed o = stairs-reply (refused OutOfTurn) (ap askStairs (held-bare d o)) _ (sym table-none)
 
   pub stairs-open : d .opened ≡ true
       → record { verdict = Verdicts.Accepted; stairs = tableIn d; desk = d }
@@ -96,7 +94,7 @@ module _ (d : Desk) (f : Fit d) (t : ℕ) where
       → record { figure = Figures.Refused OutOfTurn; desk = d }
       ≡ figureReply (asked (held d) (askInterference t (held d)))
   unfolding askInterference
-  figure-closed o = figure-reply (refused OutOfTurn) (ap (askInterference t) (closed-holds d o))
+  figure-closed o = figure-reply (refused OutOfTurn) (ap (askInterference t) (held-bare d o))
 
   pub figure-over : d .opened ≡ true → horizon < t
       → record { figure = Figures.Refused OverHorizon; desk = d }

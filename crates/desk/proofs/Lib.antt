@@ -1,12 +1,6 @@
 pub mod Held
-pub mod Opened
 pub mod Answers
-pub mod Places
 pub mod StairLaws
-pub mod RangeLaws
-pub mod PortLaws
-pub mod SlotLaws
-pub mod StreamLaws
 pub mod OpenFits
 pub mod Asking
 pub mod Carried

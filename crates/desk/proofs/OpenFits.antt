@@ -1,6 +1,6 @@
 -- What a fit desk gives where it is open: what it holds, and that gate numbers, slots and stairs may be handed on.
 -- Assumes nothing.
-use mathlib.Core.Path.{_≡_, sym, ap, subst, _∙_}
+use mathlib.Core.Path.{_≡_, sym, ap, _∙_}
 use mathlib.Core.Bool.{true}
 use mathlib.Core.List.{map}
 use Prim.Native.Nat.{_≤_}
@@ -8,14 +8,13 @@ use native.Mathlib.Omega.{arith}
 use lib.ListN.{length}
 use borrow.Author.Tests.{le-ltb}
 use Rattle.laws.specs.Lists.{filled}
-use Rattle.meaning.specs.Ranges.{horizon, mostSlots}
+use Rattle.meaning.specs.Ranges.{horizon}
 use Rattle.meaning.specs.Runs.{gateOf, runs}
 use Rattle.meaning.specs.Interference.{stairs}
 use Rattle.meaning.specs.Refusals.{accepted, unless}
 use Rattle.meaning.specs.Desks.{opened}
 use Rattle.meaning.specs.Calls.{askStairs, askInterference}
-use Rattle.meaning.specs.Promises.{Chain, Sound, SoundDesk}
-use Rattle.meaning.proofs.InRange.{port-in}
+use Rattle.meaning.specs.Promises.{Chain, Sound}
 use Rattle.meaning.proofs.ChainFree.{runs-few}
 use Rattle.meaning.proofs.Gates.{slots-stairway}
 use Rattle.gate.specs.Rows.{GateFits}
@@ -23,10 +22,14 @@ use Rattle.table.specs.declared.Table.{Table}
 use Rattle.table.specs.Rows.{tableOf}
 use Rattle.table.specs.Lookup.{TableFits}
 use Rattle.table.proofs.Demand.{demand-three, stairs-held, stairs-fit-table}
+use Rattle.entries.proofs.Opened.{Open, open-entries}
+use Rattle.entries.proofs.GateLaws.{gate-fits, gate-chain}
 use Rattle.desk.specs.declared.Desk.{Desk}
 use Rattle.desk.specs.Desks.{filledDesk, deskOf, held, Fit}
 use Rattle.desk.specs.Desks.{portIn, slotsIn, streamsIn, gateIn}
+use Rattle.desk.specs.Edits.{entriesIn}
 use Rattle.desk.specs.Reach.{storedStairs, DemandThreeHolds}
+use Rattle.desk.proofs.Held.{fit-entries}
 
 -- the stairs as the struct has them
 abbrev pub tableIn : Desk → Table
@@ -35,7 +38,10 @@ tableIn d = record { n = d .nstairs; far = d .far; tot = d .tot }
 pub record OpenFits (d : Desk) : Type 0 where
   pub holds : held d ≡ opened (portIn d) (slotsIn d) (streamsIn d)
   pub sound : Sound (portIn d) (slotsIn d) (streamsIn d)
+  pub slots-count : d .nslots ≡ length (slotsIn d)
   pub few-slots : d .nslots ≤ 32
+  pub streams-count : d .nstreams ≡ length (streamsIn d)
+  pub few-streams : d .nstreams ≤ 64
   pub gate-fits : GateFits (gateIn d)
   pub chain : Chain 0 (slotsIn d) (gateIn d .cycle)
   pub few-runs : length (runs (gateIn d) (slotsIn d)) ≤ 32
@@ -49,32 +55,19 @@ module _ (d : Desk) (f : Fit d) (o : d .opened ≡ true) where
   unfolding held
   holds-open = rw o
 
+  entries-open : Open (entriesIn d)
+  entries-open = open-entries (entriesIn d) (fit-entries d f) o
+
   sound-open : Sound (portIn d) (slotsIn d) (streamsIn d)
-  sound-open = subst SoundDesk holds-open (f .sound)
+  sound-open = entries-open .sound
 
   -- every field, from what is held
   filled-open : d ≡ filledDesk true (portIn d) (slotsIn d) (streamsIn d) (stairs (gateIn d) (slotsIn d))
   unfolding deskOf
   filled-open = f .canonical ∙ ap deskOf holds-open
 
-  gate-open : GateFits (gateIn d)
-  unfolding gateOf
-  gate-open =
-      let p = port-in (portIn d) .0 (sound-open .port-in) in
-      record {
-        cycle-least = omega arith;
-        cycle-most = omega arith;
-        guard-most = omega arith;
-        header-most = omega arith;
-      }
-
-  few-open : length (slotsIn d) ≤ 32
-  unfolding mostSlots
-  few-open = sound-open .few-slots
-
   chain-open : Chain 0 (slotsIn d) (gateIn d .cycle)
-  unfolding gateOf
-  chain-open = sound-open .chain
+  chain-open = gate-chain (portIn d) (streamsIn d) (slotsIn d) (sound-open .chain)
 
   far-row : d .far ≡ filled 993 0 (map (λ x. x .far) (stairs (gateIn d) (slotsIn d)))
   unfolding filledDesk tableOf
@@ -88,13 +81,17 @@ module _ (d : Desk) (f : Fit d) (o : d .opened ≡ true) where
   unfolding filledDesk tableOf
   open-fits =
       let fewer = runs-few (gateIn d) (slotsIn d) chain-open in
-      let few : length (runs (gateIn d) (slotsIn d)) ≤ 32 = omega (arith, few-open) in
+      let few : length (runs (gateIn d) (slotsIn d)) ≤ 32 =
+      omega (arith, entries-open .slots-count, entries-open .slots-few) in
       let count = ap (λ (x : Desk). x .nstairs) filled-open in
       record {
         holds = holds-open;
         sound = sound-open;
-        few-slots = omega (arith, few-open, ap (λ (x : Desk). x .nslots) filled-open);
-        gate-fits = gate-open;
+        slots-count = entries-open .slots-count;
+        few-slots = entries-open .slots-few;
+        streams-count = entries-open .streams-count;
+        few-streams = entries-open .streams-few;
+        gate-fits = gate-fits (portIn d) (streamsIn d) (sound-open .port-in);
         chain = chain-open;
         few-runs = few;
         table = ap tableIn filled-open;

@@ -29,7 +29,7 @@ use Rattle.table.proofs.Demand.{all-is, rows-give-interference}
 use Rattle.bound.specs.declared.Response.{Response}
 use Rattle.bound.specs.declared.Response.the-variants as Responses
 use Rattle.bound.specs.Answers.{responseOf, StreamFits, Asks}
-use Rattle.bound.specs.Searches.{tableV}
+use Rattle.search.specs.Searches.{tableV}
 use Rattle.bound.proofs.Others.{others-without}
 use Rattle.rows.specs.Rows.{noStream}
 use Rattle.desk.specs.declared.Desk.{Desk}
@@ -37,7 +37,6 @@ use Rattle.desk.specs.declared.Figure.{Figure}
 use Rattle.desk.specs.declared.Figure.the-variants as Figures
 use Rattle.desk.specs.Desks.{held, Fit, figureOf, figureReply, portIn, slotsIn, streamsIn, gateIn}
 use Rattle.desk.specs.Judged.{judgedBy}
-use Rattle.desk.proofs.Opened.{open-desk, fit-but-stairs}
 use Rattle.desk.proofs.OpenFits.{OpenFits, open-fits}
 
 -- the test of an id
@@ -156,7 +155,7 @@ module _ (d : Desk) (f : Fit d) (id : ℕ) where
             v-spreads =
                 subst (λ (u : ℕ → ℕ). (x y : ℕ) → u (x + y) ≤ u x + u y) (sym same-v)
                 (slots-spread (gateIn d) (slotsIn d));
-            few = open-desk d (fit-but-stairs d f) o .streams-few;
+            few = h .few-streams;
             rate-least = omega arith;
             rate-most = omega arith;
             streams-fit = stream-fits;

@@ -19,11 +19,8 @@ use Rattle.meaning.specs.Promises.{SoundDesk}
 use Rattle.rows.specs.Rows.{slotRow, streamRow}
 use Rattle.gate.specs.Rows.{runRow}
 use Rattle.table.specs.Rows.{tableOf}
+use Rattle.entries.specs.Entries.{verdictOf}
 use Rattle.desk.specs.declared.Desk.{Desk}
-use Rattle.desk.specs.declared.PortNumbers.{PortNumbers}
-use Rattle.desk.specs.declared.StreamNumbers.{StreamNumbers}
-use Rattle.desk.specs.declared.Verdict.{Verdict}
-use Rattle.desk.specs.declared.Verdict.the-variants as Verdicts
 use Rattle.desk.specs.declared.Figure.{Figure}
 use Rattle.desk.specs.declared.Figure.the-variants as Figures
 use Rattle.desk.specs.declared.EditReply.{EditReply}
@@ -32,24 +29,6 @@ use Rattle.desk.specs.declared.RunsReply.{RunsReply}
 use Rattle.desk.specs.declared.StairsReply.{StairsReply}
 
 -- ---- the struct and what it holds
-
--- the caller's numbers as document 01's records
-abbrev pub portOf : PortNumbers → Port
-portOf p = record { rate = p .rate; cycle = p .cycle; guard = p .guard; header = p .header }
-
-abbrev pub slotOf : ℕ → ℕ → Slot
-slotOf start end = record { start = start; end = end }
-
-abbrev pub streamOf : StreamNumbers → Stream
-streamOf j =
-    record {
-      id = j .id;
-      priority = j .priority;
-      octets = j .octets;
-      period = j .period;
-      jitter = j .jitter;
-      deadline = j .deadline;
-    }
 
 -- the struct with these numbers, slots, streams and stairs
 unfoldable pub filledDesk : Bool → Port → List Slot → List Stream → List Stair → Desk
@@ -100,10 +79,6 @@ pub record Fit (d : Desk) : Type 0 where
 
 -- ---- replies
 
-abbrev pub verdictOf : {A : Type 0} → Answer A → Verdict
-verdictOf (accepted a) = Verdicts.Accepted
-verdictOf (refused r) = Verdicts.Refused r
-
 abbrev pub figureOf : Answer ℕ → Figure
 figureOf (accepted x) = Figures.Is x
 figureOf (refused r) = Figures.Refused r
@@ -126,11 +101,7 @@ abbrev pub stairsReply : Reply (List Stair) → StairsReply
 stairsReply r =
     record { verdict = verdictOf (r .answer); stairs = tableOf (rowsOf (r .answer)); desk = deskOf (r .desk) }
 
--- ---- document 01's number of an answer, 0 where it is accepted, and the values it carries
-
-unfoldable pub verdictNumber : Verdict → ℕ
-verdictNumber Verdicts.Accepted = 0
-verdictNumber (Verdicts.Refused r) = numberOf r
+-- ---- document 01's number of a figure's answer, 0 where it is accepted, and the values it carries
 
 unfoldable pub figureNumber : Figure → ℕ
 figureNumber (Figures.Is x) = 0

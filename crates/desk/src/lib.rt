@@ -3,11 +3,11 @@ mod numbers;
 mod parts;
 mod ports;
 mod questions;
-mod ranges;
 mod responses;
 mod slots;
 mod streams;
 
+use entries::Verdict;
 use gate::RunRow;
 use meaning::Refusal;
 use meaning::Slot;
@@ -15,17 +15,14 @@ use meaning::Stream;
 pub use numbers::number;
 pub use parts::with_stairs;
 pub use ports::bare;
-pub use ports::hold_port;
 pub use ports::open_port;
 pub use questions::interference;
 pub use questions::runs;
 pub use questions::stairs;
 pub use responses::response;
 pub use slots::add_slot;
-pub use slots::hold_slot;
 pub use slots::remove_slot;
 pub use streams::add_stream;
-pub use streams::hold_stream;
 pub use streams::remove_stream;
 use table::Table;
 
@@ -45,30 +42,6 @@ pub struct Desk {
     pub nstairs: usize,
     pub far: [u32; 993],
     pub tot: [u32; 993],
-}
-
-// The numbers of a port, as a caller has them.
-pub struct PortNumbers {
-    pub rate: u64,
-    pub cycle: u64,
-    pub guard: u64,
-    pub header: u64,
-}
-
-// The numbers of a stream, as a caller has them.
-pub struct StreamNumbers {
-    pub id: u64,
-    pub priority: u64,
-    pub octets: u64,
-    pub period: u64,
-    pub jitter: u64,
-    pub deadline: u64,
-}
-
-// What an edit answers, and what a question for rows answers beside its rows.
-pub enum Verdict {
-    Accepted,
-    Refused(Refusal),
 }
 
 // What a question for a number answers.

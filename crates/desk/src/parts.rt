@@ -1,18 +1,19 @@
-// The parts of an edit: its answer, and the stairs of what is held.
+// The parts of an edit: what the desk holds, its stairs kept or built, and the answer.
 ghost use mathlib.Core.Path.{_≡_};
 ghost use mathlib.Core.Bool.{true};
-ghost use Rattle.meaning.specs.Runs.{gateOf};
-ghost use Rattle.desk.specs.Desks.{held, deskOf, Fit};
-ghost use Rattle.desk.specs.Desks.{portIn, streamsIn};
-ghost use Rattle.desk.specs.Edits.{FitButStairs, accepting, refusing};
+ghost use Rattle.entries.specs.declared.Verdict.the-variants.{Accepted};
+ghost use Rattle.entries.specs.Entries.{heldIn, FitEntries};
+ghost use Rattle.desk.specs.Desks.{deskOf, Fit};
+ghost use Rattle.desk.specs.Edits.{entriesIn, withEntries, accepting, refusing, answered};
 use crate::Desk;
 use crate::EditReply;
-use crate::Verdict;
-use meaning::Gate;
+use entries::Entries;
+use entries::EntriesReply;
+use entries::Verdict;
 use meaning::Refusal;
 
 // An accepted edit, and the desk that it made.
-pub fn accept(d: Desk) -> EditReply
+fn accept(d: Desk) -> EditReply
     ensures { λ r. ⌜ r ≡ accepting d ⌝ }
 {
     EditReply {
@@ -22,7 +23,7 @@ pub fn accept(d: Desk) -> EditReply
 }
 
 // A refused edit, and the unchanged desk.
-pub fn refuse(d: Desk, why: Refusal) -> EditReply
+fn refuse(d: Desk, why: Refusal) -> EditReply
     ensures { λ r. ⌜ r ≡ refusing d why ⌝ }
 {
     EditReply {
@@ -31,32 +32,94 @@ pub fn refuse(d: Desk, why: Refusal) -> EditReply
     }
 }
 
-// The gate numbers in force.
-pub fn gate_of(d: Desk) -> Gate
-    ensures { λ r. ⌜ r ≡ gateOf (portIn d) (streamsIn d) ⌝ }
+// What the desk holds, without its stairs.
+pub fn entries_of(d: Desk) -> Entries
+    ensures { λ r. ⌜ r ≡ entriesIn d ⌝ }
 {
-    Gate {
+    let slots = d.slots;
+    let streams = d.streams;
+    Entries {
+        opened: d.opened,
+        rate: d.rate,
         cycle: d.cycle,
         guard: d.guard,
         header: d.header,
+        nslots: d.nslots,
+        slots,
+        nstreams: d.nstreams,
+        streams,
     }
 }
 
-// The desk with the stairs of its gate numbers and slots, whatever its stairs were.
-pub fn with_stairs(d: Desk) -> Desk
-    requires { ⌜ FitButStairs d × (d .opened ≡ true) ⌝ }
-    ensures { λ r. ⌜ (r ≡ deskOf (held d)) × Fit r ⌝ }
+// The desk with these entries and the stairs that it has: for an edit that leaves the stairs as they are.
+fn with_entries(d: Desk, e: Entries) -> Desk
+    ensures { λ r. ⌜ r ≡ withEntries d e ⌝ }
 {
-    let g = gate_of(d);
-    let slots = d.slots;
-    let found = gate::find_runs(g, slots, d.nslots);
+    let slots = e.slots;
+    let streams = e.streams;
+    let mut made = d;
+    made.opened = e.opened;
+    made.rate = e.rate;
+    made.cycle = e.cycle;
+    made.guard = e.guard;
+    made.header = e.header;
+    made.nslots = e.nslots;
+    made.slots = slots;
+    made.nstreams = e.nstreams;
+    made.streams = streams;
+    made
+}
+
+// The desk of these entries, with the stairs of their gate numbers and slots.
+pub fn with_stairs(e: Entries) -> Desk
+    requires { ⌜ FitEntries e × (e .opened ≡ true) ⌝ }
+    ensures { λ r. ⌜ (r ≡ deskOf (heldIn e)) × Fit r ⌝ }
+{
+    let g = entries::gate_of(e);
+    let slots = e.slots;
+    let streams = e.streams;
+    let found = gate::find_runs(g, slots, e.nslots);
     let runs = found.row;
     let t = table::build(g.cycle, runs, found.n);
     let far = t.far;
     let tot = t.tot;
-    let mut e = d;
-    e.nstairs = t.n;
-    e.far = far;
-    e.tot = tot;
-    e
+    Desk {
+        opened: e.opened,
+        rate: e.rate,
+        cycle: e.cycle,
+        guard: e.guard,
+        header: e.header,
+        nslots: e.nslots,
+        slots,
+        nstreams: e.nstreams,
+        streams,
+        nstairs: t.n,
+        far,
+        tot,
+    }
+}
+
+// What the desk answers to an edit of its entries that leaves the stairs as they are.
+pub fn keep_stairs(d: Desk, made: EntriesReply) -> EditReply
+    ensures { λ r. ⌜ r ≡ answered d (withEntries d (made .entries)) (made .verdict) ⌝ }
+{
+    let verdict = made.verdict;
+    let e = made.entries;
+    match verdict {
+        Verdict::Accepted => accept(with_entries(d, e)),
+        Verdict::Refused(why) => refuse(d, why),
+    }
+}
+
+// What the desk answers to an edit of its entries behind which the stairs are built.
+pub fn build_stairs(d: Desk, made: EntriesReply) -> EditReply
+    requires { ⌜ FitEntries (made .entries) × (made .verdict ≡ Accepted → made .entries .opened ≡ true) ⌝ }
+    ensures { λ r. ⌜ r ≡ answered d (deskOf (heldIn (made .entries))) (made .verdict) ⌝ }
+{
+    let verdict = made.verdict;
+    let e = made.entries;
+    match verdict {
+        Verdict::Accepted => accept(with_stairs(e)),
+        Verdict::Refused(why) => refuse(d, why),
+    }
 }

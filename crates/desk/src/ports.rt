@@ -2,16 +2,13 @@
 ghost use mathlib.Core.Path.{_≡_};
 ghost use Rattle.meaning.specs.Desks.{bare, edited};
 ghost use Rattle.meaning.specs.Calls.{openPort};
-ghost use Rattle.desk.specs.Desks.{held, deskOf, Fit, portOf, editReply};
-ghost use Rattle.desk.specs.Edits.{FitButStairs, holdReply};
+ghost use Rattle.entries.specs.Entries.{portOf};
+ghost use Rattle.desk.specs.Desks.{held, deskOf, Fit, editReply};
 use crate::Desk;
 use crate::EditReply;
-use crate::PortNumbers;
-use crate::parts::accept;
-use crate::parts::refuse;
-use crate::ranges::narrow_port;
-use crate::ranges::port_in_range;
-use meaning::Refusal;
+use crate::parts::entries_of;
+use crate::parts::keep_stairs;
+use entries::PortNumbers;
 use meaning::Slot;
 use meaning::Stream;
 
@@ -44,32 +41,10 @@ pub fn bare() -> Desk
     }
 }
 
-// The desk with its port opened, whatever the stairs are: they are left as they were.
-pub fn hold_port(d: Desk, p: PortNumbers) -> EditReply
-    requires { ⌜ FitButStairs d ⌝ }
-    ensures { λ r. ⌜ (r ≡ holdReply d (edited (held d) (openPort (portOf p) (held d))))
-        × FitButStairs (r .desk) ⌝ }
-{
-    if d.opened {
-        return refuse(d, Refusal::OutOfTurn);
-    }
-    if !port_in_range(p) {
-        return refuse(d, Refusal::OutOfRange);
-    }
-    let q = narrow_port(p);
-    let mut e = d;
-    e.opened = true;
-    e.rate = q.rate;
-    e.cycle = q.cycle;
-    e.guard = q.guard;
-    e.header = q.header;
-    accept(e)
-}
-
 // The desk with its port opened; it holds no slot and no stream yet.
 pub fn open_port(d: Desk, p: PortNumbers) -> EditReply
     requires { ⌜ Fit d ⌝ }
     ensures { λ r. ⌜ (r ≡ editReply (edited (held d) (openPort (portOf p) (held d)))) × Fit (r .desk) ⌝ }
 {
-    hold_port(d, p)
+    keep_stairs(d, entries::hold_port(entries_of(d), p))
 }

@@ -1,14 +1,16 @@
 // Questions on a desk (document 01): runs, stairs and interference. The desk handed back is the one given.
 ghost use mathlib.Core.Path.{_≡_};
+ghost use mathlib.Core.Bool.{true};
 ghost use Rattle.meaning.specs.Desks.{asked};
 ghost use Rattle.meaning.specs.Calls.{askRuns, askStairs, askInterference};
 ghost use Rattle.desk.specs.Desks.{held, Fit, runsReply, stairsReply, figureReply};
+ghost use Rattle.desk.specs.Reach.{figureIn};
 use crate::Desk;
 use crate::Figure;
 use crate::FigureReply;
 use crate::RunsReply;
 use crate::StairsReply;
-use crate::Verdict;
+use entries::Verdict;
 use gate::RunRow;
 use meaning::Gate;
 use meaning::Refusal;
@@ -76,7 +78,16 @@ pub fn stairs(d: Desk) -> StairsReply
     }
 }
 
-// Interference V(t), read from the stairs that the desk stores.
+// V(t), read from the stairs that an open desk stores. Lending them costs a copy of the desk, so it stands apart from
+// the calls that are refused.
+fn stored_figure(d: Desk, t: u32) -> u64
+    requires { ⌜ Fit d × (d .opened ≡ true) ⌝ }
+    ensures { λ r. ⌜ r ≡ figureIn d t ⌝ }
+{
+    table::interference(d.cycle, &d.far, &d.tot, d.nstairs, t)
+}
+
+// Interference V(t).
 pub fn interference(d: Desk, t: u64) -> FigureReply
     requires { ⌜ Fit d ⌝ }
     ensures { λ r. ⌜ (r ≡ figureReply (asked (held d) (askInterference t (held d)))) × Fit (r .desk) ⌝ }
@@ -88,7 +99,7 @@ pub fn interference(d: Desk, t: u64) -> FigureReply
                 desk: d,
             };
         }
-        let v = table::interference(d.cycle, &d.far, &d.tot, d.nstairs, t as u32);
+        let v = stored_figure(d, t as u32);
         return FigureReply {
             figure: Figure::Is(v),
             desk: d,

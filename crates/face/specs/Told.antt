@@ -1,13 +1,18 @@
 -- The replies of the desk's calls, of the reader and of the writer as numbers, and numbers as what the calls take.
+use mathlib.Core.Path.{_≡_}
 use mathlib.Core.List.{List, [], _∷_}
 use Prim.Native.Nat.{ℕ}
 use Rattle.meaning.specs.declared.Port.{Port}
 use Rattle.meaning.specs.declared.Stream.{Stream}
+use Rattle.meaning.specs.declared.Refusal.{Refusal}
+use Rattle.desk.specs.declared.Desk.{Desk}
+use Rattle.entries.specs.declared.Verdict.the-variants.{Refused}
 use Rattle.desk.specs.declared.EditReply.{EditReply}
 use Rattle.desk.specs.declared.FigureReply.{FigureReply}
 use Rattle.desk.specs.declared.RunsReply.{RunsReply}
 use Rattle.desk.specs.declared.StairsReply.{StairsReply}
-use Rattle.desk.specs.Desks.{verdictNumber, figureNumber, figureValues}
+use Rattle.entries.specs.Entries.{verdictNumber}
+use Rattle.desk.specs.Desks.{figureNumber, figureValues}
 use Rattle.plan.specs.declared.ReadReply.{ReadReply}
 use Rattle.plan.specs.declared.WriteReply.{WriteReply}
 use Rattle.plan.specs.Reading.{readNumber, readPlaces}
@@ -45,6 +50,10 @@ theOne (x ∷ xs) = x
 
 abbrev pub numbered : EditReply → Edited
 numbered r = record { number = verdictNumber (r .verdict); desk = r .desk }
+
+-- "A refused call changes nothing": the desk handed back is d
+abbrev pub RefusedKeeps : Desk → EditReply → Type 0
+RefusedKeeps d r = (why : Refusal) → r .verdict ≡ Refused why → r .desk ≡ d
 
 abbrev pub numberedFigure : FigureReply → Figured
 numberedFigure r =

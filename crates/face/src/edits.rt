@@ -2,25 +2,31 @@
 ghost use mathlib.Core.Path.{_≡_};
 ghost use Rattle.meaning.specs.Desks.{bare, edited};
 ghost use Rattle.meaning.specs.Calls.{openPort, addSlot, removeSlot, addStream, removeStream};
-ghost use Rattle.desk.specs.Desks.{held, deskOf, Fit, slotOf, editReply};
-ghost use Rattle.face.specs.Told.{portFrom, streamFrom, numbered};
+ghost use Rattle.entries.specs.Entries.{slotOf};
+ghost use Rattle.desk.specs.Desks.{held, deskOf, Fit, editReply};
+ghost use Rattle.face.specs.Told.{portFrom, streamFrom, numbered, RefusedKeeps};
 use crate::Edited;
-use crate::numbers::verdict_number;
 use desk::Desk;
 use desk::EditReply;
-use desk::PortNumbers;
-use desk::StreamNumbers;
+use entries::PortNumbers;
+use entries::StreamNumbers;
+use entries::Verdict;
 
-// The reply to an edit, with its answer as a number.
-fn told_edit(reply: EditReply) -> Edited
+// The reply to an edit of the desk d, with its answer as a number. A refused edit hands d itself back, so that the
+// reply's desk is copied only where it is another.
+fn told_edit(d: Desk, reply: EditReply) -> Edited
+    requires { ⌜ RefusedKeeps d reply ⌝ }
     ensures { λ r. ⌜ r ≡ numbered reply ⌝ }
 {
-    let answer = reply.verdict;
-    let d = reply.desk;
-    Edited {
-        number: verdict_number(answer),
-        desk: d,
+    let verdict = reply.verdict;
+    if let Verdict::Refused(why) = verdict {
+        return Edited {
+            number: desk::number(why),
+            desk: d,
+        };
     }
+    let e = reply.desk;
+    Edited { number: 0, desk: e }
 }
 
 // The bare desk.
@@ -45,7 +51,7 @@ pub extern "C" fn desk_open_port(d: Desk, rate: u64, cycle: u64, guard: u64, hea
         guard,
         header,
     };
-    told_edit(desk::open_port(d, p))
+    told_edit(d, desk::open_port(d, p))
 }
 
 // The desk with one slot more.
@@ -55,7 +61,7 @@ pub extern "C" fn desk_add_slot(d: Desk, start: u64, end: u64) -> Edited
     ensures { λ r. ⌜ (r ≡ numbered (editReply (edited (held d) (addSlot (slotOf start end) (held d)))))
         × Fit (r .desk) ⌝ }
 {
-    told_edit(desk::add_slot(d, start, end))
+    told_edit(d, desk::add_slot(d, start, end))
 }
 
 // The desk without the slot that has this start.
@@ -64,7 +70,7 @@ pub extern "C" fn desk_remove_slot(d: Desk, start: u64) -> Edited
     requires { ⌜ Fit d ⌝ }
     ensures { λ r. ⌜ (r ≡ numbered (editReply (edited (held d) (removeSlot start (held d))))) × Fit (r .desk) ⌝ }
 {
-    told_edit(desk::remove_slot(d, start))
+    told_edit(d, desk::remove_slot(d, start))
 }
 
 // The desk with one stream more.
@@ -91,7 +97,7 @@ pub extern "C" fn desk_add_stream(
         jitter,
         deadline,
     };
-    told_edit(desk::add_stream(d, j))
+    told_edit(d, desk::add_stream(d, j))
 }
 
 // The desk without the stream that has this id.
@@ -100,5 +106,5 @@ pub extern "C" fn desk_remove_stream(d: Desk, id: u64) -> Edited
     requires { ⌜ Fit d ⌝ }
     ensures { λ r. ⌜ (r ≡ numbered (editReply (edited (held d) (removeStream id (held d))))) × Fit (r .desk) ⌝ }
 {
-    told_edit(desk::remove_stream(d, id))
+    told_edit(d, desk::remove_stream(d, id))
 }

@@ -1,12 +1,13 @@
 // Answers as numbers: document 01's number of a refusal, 0 where there is none, and the values beside it.
 ghost use mathlib.Core.Path.{_≡_};
 ghost use Rattle.meaning.specs.Refusals.{valuesOf};
-ghost use Rattle.desk.specs.Desks.{verdictNumber, figureNumber, figureValues};
+ghost use Rattle.entries.specs.Entries.{verdictNumber};
+ghost use Rattle.desk.specs.Desks.{figureNumber, figureValues};
 ghost use Rattle.plan.specs.Reading.{readNumber, readPlaces};
 ghost use Rattle.plan.specs.Writing.{writeNumber, writeCounts};
 ghost use Rattle.face.specs.Told.{theOne};
 use desk::Figure;
-use desk::Verdict;
+use entries::Verdict;
 use meaning::Refusal;
 use plan::ReadAnswer;
 use plan::WriteAnswer;

@@ -14,7 +14,7 @@ use crate::numbers::write_count;
 use crate::numbers::write_number;
 use desk::Desk;
 use plan::ReadReply;
-use plan::WriteReply;
+use plan::WriteAnswer;
 
 // The reply of the reader, with its answer as two numbers.
 fn told_read(reply: ReadReply) -> PlanRead
@@ -31,12 +31,10 @@ fn told_read(reply: ReadReply) -> PlanRead
     }
 }
 
-// The reply of the writer, with its answer as two numbers.
-fn told_write(reply: WriteReply) -> PlanWritten
-    ensures { λ r. ⌜ r ≡ numberedWrite reply ⌝ }
+// The answer of the writer as two numbers, with the desk.
+fn told_write(d: Desk, answer: WriteAnswer) -> PlanWritten
+    ensures { λ r. ⌜ r ≡ numberedWrite (record { answer = answer; desk = d }) ⌝ }
 {
-    let answer = reply.answer;
-    let d = reply.desk;
     let number = write_number(answer);
     let count = write_count(answer);
     PlanWritten {
@@ -63,5 +61,7 @@ pub extern "C" fn desk_write(d: Desk, room: &mut [u8]) -> PlanWritten
         × (now (room .exit) ≡ roomAfter (now (room .entry)) (writePlan (now (room .entry)) (held d)))
         × Fit (r .desk) ⌝ }
 {
-    told_write(plan::write(d, room))
+    let reply = plan::write(d, room);
+    let answer = reply.answer;
+    told_write(d, answer)
 }

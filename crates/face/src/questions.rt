@@ -1,4 +1,5 @@
-// Questions on a desk, for programs in Rust and C. The desk handed back is the one given.
+// Questions on a desk, for programs in Rust and C. The desk handed back is the one given, itself: that in the reply of
+// the desk's call is never copied.
 ghost use mathlib.Core.Path.{_≡_};
 ghost use Rattle.meaning.specs.Desks.{asked};
 ghost use Rattle.meaning.specs.Calls.{askRuns, askStairs, askInterference, askResponse};
@@ -11,18 +12,16 @@ use crate::numbers::figure_number;
 use crate::numbers::figure_value;
 use crate::numbers::verdict_number;
 use desk::Desk;
-use desk::FigureReply;
-use desk::RunsReply;
-use desk::StairsReply;
+use desk::Figure;
+use entries::Verdict;
+use gate::RunRow;
+use table::Table;
 
-// The reply to the question for runs, with its answer as a number.
-fn told_runs(reply: RunsReply) -> RunsTold
-    ensures { λ r. ⌜ r ≡ numberedRuns reply ⌝ }
+// The answer to the question for runs as a number, with its rows and the desk.
+fn told_runs(d: Desk, answer: Verdict, found: RunRow) -> RunsTold
+    ensures { λ r. ⌜ r ≡ numberedRuns (record { verdict = answer; runs = found; desk = d }) ⌝ }
 {
-    let answer = reply.verdict;
-    let found = reply.runs;
     let runs = found.row;
-    let d = reply.desk;
     RunsTold {
         number: verdict_number(answer),
         count: found.n as u64,
@@ -31,15 +30,12 @@ fn told_runs(reply: RunsReply) -> RunsTold
     }
 }
 
-// The reply to the question for stairs, with its answer as a number.
-fn told_stairs(reply: StairsReply) -> StairsTold
-    ensures { λ r. ⌜ r ≡ numberedStairs reply ⌝ }
+// The answer to the question for stairs as a number, with its rows and the desk.
+fn told_stairs(d: Desk, answer: Verdict, found: Table) -> StairsTold
+    ensures { λ r. ⌜ r ≡ numberedStairs (record { verdict = answer; stairs = found; desk = d }) ⌝ }
 {
-    let answer = reply.verdict;
-    let found = reply.stairs;
     let far = found.far;
     let tot = found.tot;
-    let d = reply.desk;
     StairsTold {
         number: verdict_number(answer),
         count: found.n as u64,
@@ -49,12 +45,10 @@ fn told_stairs(reply: StairsReply) -> StairsTold
     }
 }
 
-// The reply to the question for a figure, with its answer as two numbers.
-fn told_figure(reply: FigureReply) -> Figured
-    ensures { λ r. ⌜ r ≡ numberedFigure reply ⌝ }
+// The answer to the question for a figure as two numbers, with the desk.
+fn told_figure(d: Desk, answer: Figure) -> Figured
+    ensures { λ r. ⌜ r ≡ numberedFigure (record { figure = answer; desk = d }) ⌝ }
 {
-    let answer = reply.figure;
-    let d = reply.desk;
     let number = figure_number(answer);
     let value = figure_value(answer);
     Figured {
@@ -70,7 +64,10 @@ pub extern "C" fn desk_runs(d: Desk) -> RunsTold
     requires { ⌜ Fit d ⌝ }
     ensures { λ r. ⌜ (r ≡ numberedRuns (runsReply (asked (held d) (askRuns (held d))))) × Fit (r .desk) ⌝ }
 {
-    told_runs(desk::runs(d))
+    let reply = desk::runs(d);
+    let answer = reply.verdict;
+    let found = reply.runs;
+    told_runs(d, answer, found)
 }
 
 // The stairs, by rising distance.
@@ -79,7 +76,10 @@ pub extern "C" fn desk_stairs(d: Desk) -> StairsTold
     requires { ⌜ Fit d ⌝ }
     ensures { λ r. ⌜ (r ≡ numberedStairs (stairsReply (asked (held d) (askStairs (held d))))) × Fit (r .desk) ⌝ }
 {
-    told_stairs(desk::stairs(d))
+    let reply = desk::stairs(d);
+    let answer = reply.verdict;
+    let found = reply.stairs;
+    told_stairs(d, answer, found)
 }
 
 // Interference V(t).
@@ -89,7 +89,9 @@ pub extern "C" fn desk_interference(d: Desk, t: u64) -> Figured
     ensures { λ r. ⌜ (r ≡ numberedFigure (figureReply (asked (held d) (askInterference t (held d)))))
         × Fit (r .desk) ⌝ }
 {
-    told_figure(desk::interference(d, t))
+    let reply = desk::interference(d, t);
+    let answer = reply.figure;
+    told_figure(d, answer)
 }
 
 // The response bound of the stream with this id.
@@ -98,5 +100,7 @@ pub extern "C" fn desk_response(d: Desk, id: u64) -> Figured
     requires { ⌜ Fit d ⌝ }
     ensures { λ r. ⌜ (r ≡ numberedFigure (figureReply (asked (held d) (askResponse id (held d))))) × Fit (r .desk) ⌝ }
 {
-    told_figure(desk::response(d, id))
+    let reply = desk::response(d, id);
+    let answer = reply.figure;
+    told_figure(d, answer)
 }

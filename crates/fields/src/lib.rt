@@ -228,6 +228,17 @@ fn put_tag(out: &mut [u8], tag: u8, octets: u16)
     put2(&mut out[1..], octets);
 }
 
+// The short numbers of a stream at the front of the room.
+fn put_short(out: &mut [u8], id: u16, priority: u8, octets: u16)
+    requires { ⌜ 5 ≤ length (now out) ⌝ }
+    ensures { λ _. ⌜ now (out .exit)
+        ≡ octetsOf 2 id ++ octetsOf 1 priority ++ octetsOf 2 octets ++ drop 5 (now (out .entry)) ⌝ }
+{
+    put2(out, id);
+    put1(&mut out[2..], priority);
+    put2(&mut out[3..], octets);
+}
+
 // Three times at the front of the room, four octets each.
 fn put_times(out: &mut [u8], a: u32, b: u32, c: u32)
     requires { ⌜ 12 ≤ length (now out) ⌝ }
@@ -265,9 +276,12 @@ pub fn put_stream(out: &mut [u8], j: Stream)
     ensures { λ _. ⌜ now (out .exit) ≡ fieldOctets (streamField j) ++ drop 20 (now (out .entry)) ⌝ }
 {
     put_tag(out, 3, 17);
-    put2(&mut out[3..], j.id as u16);
-    put1(&mut out[5..], j.priority as u8);
-    put2(&mut out[6..], j.octets as u16);
+    put_short(
+        &mut out[3..],
+        j.id as u16,
+        j.priority as u8,
+        j.octets as u16,
+    );
     put_times(&mut out[8..], j.period, j.jitter, j.deadline);
 }
 

@@ -34,8 +34,7 @@ use Rattle.desk.specs.declared.Desk.{Desk}
 use Rattle.desk.specs.declared.EditReply.{EditReply}
 use Rattle.desk.specs.Desks.{deskOf, held, Fit, editReply}
 use Rattle.desk.specs.Edits.{accepting}
-use Rattle.desk.proofs.Held.{held-of, fit-of, no-second-reply}
-use Rattle.desk.proofs.Opened.{held-bare}
+use Rattle.desk.proofs.Held.{held-of, held-bare, fit-of, no-second-reply}
 use Rattle.plan.specs.declared.ReadAnswer.the-variants as reads
 use Rattle.plan.specs.declared.ReadReply.{ReadReply}
 use Rattle.plan.specs.declared.WriteAnswer.the-variants.{Wrote, Refused}

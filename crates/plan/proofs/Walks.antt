@@ -15,13 +15,12 @@ use Rattle.meaning.specs.Bytes.{Reading, going, stopped, afterEdit, afterFront,
 use Rattle.meaning.specs.Bytes.{ended, readPlan, refusedAt}
 use Rattle.meaning.proofs.Fields.{front-takes}
 use Rattle.meaning.proofs.Readings.{walk-stopped, walk-done, step-some, walk-enough}
-use Rattle.desk.specs.declared.Desk.{Desk}
-use Rattle.desk.specs.declared.Verdict.{Verdict}
-use Rattle.desk.specs.declared.Verdict.the-variants.{Accepted, Refused}
-use Rattle.desk.specs.declared.EditReply.{EditReply}
-use Rattle.desk.specs.Desks.{held}
-use Rattle.desk.specs.Edits.{holdReply}
-use Rattle.desk.proofs.Opened.{held-keeping}
+use Rattle.entries.specs.declared.Entries.{Entries}
+use Rattle.entries.specs.declared.Verdict.{Verdict}
+use Rattle.entries.specs.declared.Verdict.the-variants.{Accepted, Refused}
+use Rattle.entries.specs.declared.EntriesReply.{EntriesReply}
+use Rattle.entries.specs.Entries.{heldIn, entriesReply}
+use Rattle.entries.proofs.Opened.{held-of-entries}
 use Rattle.fields.specs.declared.FieldAt.{FieldAt}
 use Rattle.plan.specs.declared.Walked.{Walked}
 use Rattle.fields.specs.Reading.{fieldAt, told}
@@ -42,8 +41,8 @@ told-apart : {v : Verdict} {r : Refusal} → v ≡ Accepted → v ≡ Refused r 
 told-apart a b = let z : _≡_ {A = ℕ} 0 1 = cc in omega arith
 
 -- a field walked
-abbrev pub walkedBy : Verdict → ℕ → Desk → Walked
-walkedBy v at d = record { verdict = v; at = at; desk = d }
+abbrev pub walkedBy : Verdict → ℕ → Entries → Walked
+walkedBy v at es = record { verdict = v; at = at; entries = es }
 
 module _ (plan : List ℕ) (at : ℕ) (f : FieldAt) (e : f ≡ fieldAt (front (drop at plan))) where
   -- they lie within the plan
@@ -56,97 +55,97 @@ module _ (plan : List ℕ) (at : ℕ) (f : FieldAt) (e : f ≡ fieldAt (front (d
           omega (arith, octets-of g, front-takes (drop at plan) g q, length-drop at plan)
       go (refused r) q = omega arith
 
-  -- ---- the edit that it names, made on d
+  -- ---- the edit that it names, made on es
 
-  module _ (h : at < length plan) (d : Desk) (m : EditReply)
-      (k : m ≡ holdReply d (edited (held d) (editTold (told f) (held d)))) where
-    stepped : step (going at (drop at plan) (held d)) ≡ afterFront at (drop at plan) (held d) (told f)
+  module _ (h : at < length plan) (es : Entries) (m : EntriesReply)
+      (k : m ≡ entriesReply (edited (heldIn es) (editTold (told f) (heldIn es)))) where
+    stepped : step (going at (drop at plan) (heldIn es)) ≡ afterFront at (drop at plan) (heldIn es) (told f)
     stepped =
-        step-some at (drop at plan) (held d) (omega (arith, length-drop at plan))
-        ∙ ap (afterFront at (drop at plan) (held d)) (field-told f (front (drop at plan)) e)
+        step-some at (drop at plan) (heldIn es) (omega (arith, length-drop at plan))
+        ∙ ap (afterFront at (drop at plan) (heldIn es)) (field-told f (front (drop at plan)) e)
 
     length-told : (g : Field) → told f ≡ accepted g → octetsAt f ≡ fieldLength g
     length-told g q =
         ap octetsAt (e ∙ ap fieldAt (field-told f (front (drop at plan)) e ∙ q)) ∙ octets-of g
 
     pub walked-accepted : m .verdict ≡ Accepted
-        → walkedBy Accepted (at + octetsAt f) (m .desk) ≡ walkedTo d (step (going at (drop at plan) (held d)))
+        → walkedBy Accepted (at + octetsAt f) (m .entries) ≡ walkedTo (heldIn es) (step (going at (drop at plan) (heldIn es)))
     unfolding walkedTo afterFront afterEdit edited
-    walked-accepted v = by-told (told f) refl k ∙ sym (ap (walkedTo d) stepped)
+    walked-accepted v = by-told (told f) refl k ∙ sym (ap (walkedTo (heldIn es)) stepped)
       where
-        by-edit : (g : Field) → octetsAt f ≡ fieldLength g → (a : Answer Plan) → m ≡ holdReply d (edited (held d) a)
-            → walkedBy Accepted (at + octetsAt f) (m .desk) ≡ walkedTo d (afterEdit at (drop at plan) g a)
-        by-edit g l (accepted x) q = λ i. walkedBy Accepted (at + l i) (q i .desk)
-        by-edit g l (refused r) q = let z = ap (λ (x : EditReply). x .verdict) q in cc
+        by-edit : (g : Field) → octetsAt f ≡ fieldLength g → (a : Answer Plan) → m ≡ entriesReply (edited (heldIn es) a)
+            → walkedBy Accepted (at + octetsAt f) (m .entries) ≡ walkedTo (heldIn es) (afterEdit at (drop at plan) g a)
+        by-edit g l (accepted x) q = λ i. walkedBy Accepted (at + l i) (q i .entries)
+        by-edit g l (refused r) q = let z = ap (λ (x : EntriesReply). x .verdict) q in cc
 
-        by-told : (a : Answer Field) → told f ≡ a → m ≡ holdReply d (edited (held d) (editTold a (held d)))
-            → walkedBy Accepted (at + octetsAt f) (m .desk)
-            ≡ walkedTo d (afterFront at (drop at plan) (held d) a)
-        by-told (accepted g) t q = by-edit g (length-told g t) (edit g (held d)) q
-        by-told (refused r) t q = let z = ap (λ (x : EditReply). x .verdict) q in cc
+        by-told : (a : Answer Field) → told f ≡ a → m ≡ entriesReply (edited (heldIn es) (editTold a (heldIn es)))
+            → walkedBy Accepted (at + octetsAt f) (m .entries)
+            ≡ walkedTo (heldIn es) (afterFront at (drop at plan) (heldIn es) a)
+        by-told (accepted g) t q = by-edit g (length-told g t) (edit g (heldIn es)) q
+        by-told (refused r) t q = let z = ap (λ (x : EntriesReply). x .verdict) q in cc
 
     pub walked-refused : (why : Refusal) → m .verdict ≡ Refused why
-        → walkedBy (Refused why) at (m .desk) ≡ walkedTo d (step (going at (drop at plan) (held d)))
+        → walkedBy (Refused why) at (m .entries) ≡ walkedTo (heldIn es) (step (going at (drop at plan) (heldIn es)))
     unfolding walkedTo afterFront afterEdit edited
-    walked-refused why v = by-told (told f) k ∙ sym (ap (walkedTo d) stepped)
+    walked-refused why v = by-told (told f) k ∙ sym (ap (walkedTo (heldIn es)) stepped)
       where
-        by-edit : (g : Field) (a : Answer Plan) → m ≡ holdReply d (edited (held d) a)
-            → walkedBy (Refused why) at (m .desk) ≡ walkedTo d (afterEdit at (drop at plan) g a)
-        by-edit g (accepted x) q = let z = ap (λ (x : EditReply). x .verdict) q in cc
-        by-edit g (refused r) q = λ i. walkedBy ((sym v ∙ ap (λ (x : EditReply). x .verdict) q) i) at (q i .desk)
+        by-edit : (g : Field) (a : Answer Plan) → m ≡ entriesReply (edited (heldIn es) a)
+            → walkedBy (Refused why) at (m .entries) ≡ walkedTo (heldIn es) (afterEdit at (drop at plan) g a)
+        by-edit g (accepted x) q = let z = ap (λ (x : EntriesReply). x .verdict) q in cc
+        by-edit g (refused r) q = λ i. walkedBy ((sym v ∙ ap (λ (x : EntriesReply). x .verdict) q) i) at (q i .entries)
 
-        by-told : (a : Answer Field) → m ≡ holdReply d (edited (held d) (editTold a (held d)))
-            → walkedBy (Refused why) at (m .desk) ≡ walkedTo d (afterFront at (drop at plan) (held d) a)
-        by-told (accepted g) q = by-edit g (edit g (held d)) q
-        by-told (refused r) q = λ i. walkedBy ((sym v ∙ ap (λ (x : EditReply). x .verdict) q) i) at (q i .desk)
+        by-told : (a : Answer Field) → m ≡ entriesReply (edited (heldIn es) (editTold a (heldIn es)))
+            → walkedBy (Refused why) at (m .entries) ≡ walkedTo (heldIn es) (afterFront at (drop at plan) (heldIn es) a)
+        by-told (accepted g) q = by-edit g (edit g (heldIn es)) q
+        by-told (refused r) q = λ i. walkedBy ((sym v ∙ ap (λ (x : EntriesReply). x .verdict) q) i) at (q i .entries)
 
 -- ---- the walk from a place
 
-module _ (plan : List ℕ) (at : ℕ) (d : Desk) (w : Walked) (h : at < length plan)
-    (k : w ≡ walkedTo d (step (going at (drop at plan) (held d)))) where
-  looked : step (going at (drop at plan) (held d))
-      ≡ afterFront at (drop at plan) (held d) (front (drop at plan))
-  looked = step-some at (drop at plan) (held d) (omega (arith, length-drop at plan))
+module _ (plan : List ℕ) (at : ℕ) (es : Entries) (w : Walked) (h : at < length plan)
+    (k : w ≡ walkedTo (heldIn es) (step (going at (drop at plan) (heldIn es)))) where
+  looked : step (going at (drop at plan) (heldIn es))
+      ≡ afterFront at (drop at plan) (heldIn es) (front (drop at plan))
+  looked = step-some at (drop at plan) (heldIn es) (omega (arith, length-drop at plan))
 
   -- a field that is accepted: the walk goes on behind it
   pub went-on : w .verdict ≡ Accepted
-      → (at < w .at) × (step (going at (drop at plan) (held d)) ≡ going (w .at) (drop (w .at) plan) (held (w .desk)))
+      → (at < w .at) × (step (going at (drop at plan) (heldIn es)) ≡ going (w .at) (drop (w .at) plan) (heldIn (w .entries)))
   unfolding walkedTo afterFront afterEdit fieldLength
-  went-on v = rw looked (by-front (front (drop at plan)) (k ∙ ap (walkedTo d) looked))
+  went-on v = rw looked (by-front (front (drop at plan)) (k ∙ ap (walkedTo (heldIn es)) looked))
     where
       Goes : Reading → Type 0
-      Goes s = (at < w .at) × (s ≡ going (w .at) (drop (w .at) plan) (held (w .desk)))
+      Goes s = (at < w .at) × (s ≡ going (w .at) (drop (w .at) plan) (heldIn (w .entries)))
 
-      by-edit : (g : Field) (a : Answer Plan) → w ≡ walkedTo d (afterEdit at (drop at plan) g a)
+      by-edit : (g : Field) (a : Answer Plan) → w ≡ walkedTo (heldIn es) (afterEdit at (drop at plan) g a)
           → Goes (afterEdit at (drop at plan) g a)
       by-edit g (accepted x) q =
           let place : w .at ≡ at + fieldLength g = ap (λ (x : Walked). x .at) q in
-          let desk : held (w .desk) ≡ x = ap (λ (x : Walked). held (x .desk)) q ∙ held-keeping d x in
+          let desk : heldIn (w .entries) ≡ x = ap (λ (x : Walked). heldIn (x .entries)) q ∙ held-of-entries x in
           (omega arith, rw (place, desk, drop-drop (fieldLength g) at plan))
       by-edit g (refused r) q = absurd (told-apart v (ap (λ (x : Walked). x .verdict) q))
 
-      by-front : (a : Answer Field) → w ≡ walkedTo d (afterFront at (drop at plan) (held d) a)
-          → Goes (afterFront at (drop at plan) (held d) a)
-      by-front (accepted g) q = by-edit g (edit g (held d)) q
+      by-front : (a : Answer Field) → w ≡ walkedTo (heldIn es) (afterFront at (drop at plan) (heldIn es) a)
+          → Goes (afterFront at (drop at plan) (heldIn es) a)
+      by-front (accepted g) q = by-edit g (edit g (heldIn es)) q
       by-front (refused r) q = absurd (told-apart v (ap (λ (x : Walked). x .verdict) q))
 
   -- a field that is refused: the walk stops at it
   pub went-no-further : (why : Refusal) → w .verdict ≡ Refused why
-      → (w .at ≡ at) × (step (going at (drop at plan) (held d)) ≡ stopped why at)
+      → (w .at ≡ at) × (step (going at (drop at plan) (heldIn es)) ≡ stopped why at)
   unfolding walkedTo afterFront afterEdit
-  went-no-further why v = rw looked (by-front (front (drop at plan)) (k ∙ ap (walkedTo d) looked))
+  went-no-further why v = rw looked (by-front (front (drop at plan)) (k ∙ ap (walkedTo (heldIn es)) looked))
     where
-      stops : (r : Refusal) → w ≡ walkedTo d (stopped r at) → (w .at ≡ at) × (stopped r at ≡ stopped why at)
+      stops : (r : Refusal) → w ≡ walkedTo (heldIn es) (stopped r at) → (w .at ≡ at) × (stopped r at ≡ stopped why at)
       stops r q = let z = ap (λ (x : Walked). x .verdict) q in (ap (λ (x : Walked). x .at) q, cc)
 
-      by-edit : (g : Field) (a : Answer Plan) → w ≡ walkedTo d (afterEdit at (drop at plan) g a)
+      by-edit : (g : Field) (a : Answer Plan) → w ≡ walkedTo (heldIn es) (afterEdit at (drop at plan) g a)
           → (w .at ≡ at) × (afterEdit at (drop at plan) g a ≡ stopped why at)
       by-edit g (accepted x) q = let z = ap (λ (x : Walked). x .verdict) q in (cc, cc)
       by-edit g (refused r) q = stops r q
 
-      by-front : (a : Answer Field) → w ≡ walkedTo d (afterFront at (drop at plan) (held d) a)
-          → (w .at ≡ at) × (afterFront at (drop at plan) (held d) a ≡ stopped why at)
-      by-front (accepted g) q = by-edit g (edit g (held d)) q
+      by-front : (a : Answer Field) → w ≡ walkedTo (heldIn es) (afterFront at (drop at plan) (heldIn es) a)
+          → (w .at ≡ at) × (afterFront at (drop at plan) (heldIn es) a ≡ stopped why at)
+      by-front (accepted g) q = by-edit g (edit g (heldIn es)) q
       by-front (refused r) q = stops r q
 
 -- ---- turn by turn

@@ -21,9 +21,11 @@ use Rattle.meaning.specs.Bytes.{fieldsOf, planOctets, planLength, writePlan, wr
 use Rattle.meaning.proofs.InRange.{port-in, stream-in}
 use Rattle.meaning.proofs.Fields.{field-length}
 use Rattle.meaning.proofs.Plans.{plan-length, plan-octets-length, write-says}
+use Rattle.entries.proofs.Opened.{Open, open-entries}
 use Rattle.desk.specs.declared.Desk.{Desk}
 use Rattle.desk.specs.Desks.{held, Fit, portIn, slotsIn, streamsIn}
-use Rattle.desk.proofs.Opened.{Open, held-bare, fit-but-stairs, open-desk}
+use Rattle.desk.specs.Edits.{entriesIn}
+use Rattle.desk.proofs.Held.{held-bare, held-in-entries, fit-entries}
 use Rattle.plan.specs.declared.WriteAnswer.the-variants.{Wrote, Refused}
 use Rattle.plan.specs.declared.WriteReply.{WriteReply}
 use Rattle.fields.specs.Writing.{AllFit}
@@ -40,13 +42,16 @@ abbrev pub lengthIn : Desk → ℕ
 lengthIn d = streamsAt d + 20 * d .nstreams
 
 module _ (d : Desk) (f : Fit d) (o : d .opened ≡ true) where
-  pub open-of : Open d
-  open-of = open-desk d (fit-but-stairs d f) o
+  pub open-of : Open (entriesIn d)
+  open-of = open-entries (entriesIn d) (fit-entries d f) o
+
+  holds-of : held d ≡ opened (portIn d) (slotsIn d) (streamsIn d)
+  holds-of = sym (held-in-entries d) ∙ open-of .holds
 
   pub length-of : planLength (held d) ≡ lengthIn d
   length-of =
       let h = open-of in
-      ap planLength (h .holds) ∙ plan-length (portIn d) (slotsIn d) (streamsIn d)
+      ap planLength holds-of ∙ plan-length (portIn d) (slotsIn d) (streamsIn d)
       ∙ omega (arith, h .slots-count, h .streams-count)
 
   -- each number fits the octets of its place in a field
@@ -78,7 +83,7 @@ restFrom at xs = midOf at (length xs - at) xs
 abbrev filledFrom : ℕ → List ℕ → List ℕ → List ℕ
 filledFrom at xs ys = putMid at (length xs - at) xs ys
 
-module _ (d : Desk) (h : Open d) (room : List ℕ) where
+module _ (d : Desk) (f : Fit d) (o : d .opened ≡ true) (room : List ℕ) where
   -- PORT in front leaves a, the slots leave b of its rest, and the streams leave c of the rest behind them
   pub room-filled : (a b c : List ℕ) → a ≡ fieldOctets (portField (portIn d)) ++ drop 16 room
       → b ≡ octetsOfRow slotField (slotsIn d) ++ drop (11 * d .nslots) (restFrom 16 a)
@@ -91,11 +96,11 @@ module _ (d : Desk) (h : Open d) (room : List ℕ) where
       let one : length first ≡ 16 = field-length (portField (portIn d)) in
       let second = octetsOfRow slotField (slotsIn d) in
       let two : length (first ++ second) ≡ streamsAt d =
-      omega (arith, length-append first second, row-octets slotField 11 (λ s. refl) (slotsIn d), h .slots-count) in
+      omega (arith, length-append first second, row-octets slotField 11 (λ s. refl) (slotsIn d), open-of d f o .slots-count) in
       let third = octetsOfRow streamField (streamsIn d) in
       fill-next (streamsAt d) (20 * d .nstreams) (filledFrom 16 a b) c (first ++ second) third room two
       (fill-next 16 (11 * d .nslots) a b first second room one port slots) streams
-      ∙ rw (h .holds, ← plan-parts (portIn d) (slotsIn d) (streamsIn d))
+      ∙ rw (holds-of d f o, ← plan-parts (portIn d) (slotsIn d) (streamsIn d))
 
 -- ---- the reply
 
@@ -121,7 +126,7 @@ module _ (d : Desk) (f : Fit d) (room : List ℕ) where
         → Writes d room (record { answer = Refused NoRoom; desk = d }) room
     unfolding written roomAfter
     write-no-room l =
-        let e = open-of d f o .holds in
+        let e = holds-of d f o in
         reply-is (refused NoRoom)
         (ap (writePlan room) e
         ∙ write-says room (portIn d) (slotsIn d) (streamsIn d) .no-room .1
@@ -133,7 +138,7 @@ module _ (d : Desk) (f : Fit d) (room : List ℕ) where
         → Writes d room (record { answer = Wrote (lengthIn d); desk = d }) after
     unfolding written roomAfter
     write-open l after g =
-        let e = open-of d f o .holds in
+        let e = holds-of d f o in
         let says = write-says room (portIn d) (slotsIn d) (streamsIn d) in
         let accepts =
         says .accepts (planOctets (held d)) .1 (omega (arith, length-of d f o, ap planLength e), ap planOctets e) in

@@ -1,16 +1,14 @@
 -- What a step of the walk and reading a whole plan answer.
 use mathlib.Core.List.{List, [], _∷_}
 use Prim.Native.Nat.{ℕ, _+_}
-use Rattle.meaning.specs.declared.Refusal.{Refusal}
 use Rattle.meaning.specs.Refusals.{Answer, accepted, refused, numberOf}
 use Rattle.meaning.specs.Desks.{Desk as Plan}
 use Rattle.meaning.specs.Bytes.{Field, edit, Reading, going, stopped, Outcome, read, refusedAt, deskRead}
 use Rattle.fields.specs.declared.FieldAt.{FieldAt}
 use Rattle.fields.specs.declared.FieldAt.the-variants as case
-use Rattle.desk.specs.declared.Desk.{Desk}
-use Rattle.desk.specs.declared.Verdict.the-variants as Verdicts
-use Rattle.desk.specs.Desks.{held, deskOf}
-use Rattle.desk.specs.Edits.{keepingStairs}
+use Rattle.entries.specs.declared.Verdict.the-variants as Verdicts
+use Rattle.entries.specs.Entries.{entriesOf}
+use Rattle.desk.specs.Desks.{deskOf}
 use Rattle.plan.specs.declared.Walked.{Walked}
 use Rattle.plan.specs.declared.ReadAnswer.{ReadAnswer}
 use Rattle.plan.specs.declared.ReadAnswer.the-variants as reads
@@ -30,10 +28,10 @@ abbrev pub editTold : Answer Field → Plan → Answer Plan
 editTold (accepted f) e = edit f e
 editTold (refused r) e = refused r
 
--- where a reading has come to, with the stairs that d has
-unfoldable pub walkedTo : Desk → Reading → Walked
-walkedTo d (going place octets e) = record { verdict = Verdicts.Accepted; at = place; desk = keepingStairs d e }
-walkedTo d (stopped r place) = record { verdict = Verdicts.Refused r; at = place; desk = keepingStairs d (held d) }
+-- where a reading of what follows desk d has come to
+unfoldable pub walkedTo : Plan → Reading → Walked
+walkedTo d (going place octets e) = record { verdict = Verdicts.Accepted; at = place; entries = entriesOf e }
+walkedTo d (stopped r place) = record { verdict = Verdicts.Refused r; at = place; entries = entriesOf d }
 
 -- ---- a whole plan
 
@@ -44,10 +42,6 @@ readAnswer (refusedAt r place) = reads.Refused r place
 -- "The reader answers number, the place [..] and the bare desk"
 abbrev pub readReply : Outcome → ReadReply
 readReply o = record { answer = readAnswer o; desk = deskOf (deskRead o) }
-
--- a refusal with any desk
-abbrev pub refusing : Refusal → ℕ → Desk → ReadReply
-refusing why place d = record { answer = reads.Refused why place; desk = d }
 
 -- document 01's number of an answer, 0 where the plan is read, and the place it carries
 unfoldable pub readNumber : ReadAnswer → ℕ

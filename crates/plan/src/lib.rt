@@ -3,7 +3,8 @@ mod reading;
 mod writing;
 
 use desk::Desk;
-use desk::Verdict;
+use entries::Entries;
+use entries::Verdict;
 use meaning::Refusal;
 pub use reading::read;
 pub use reading::walk_on;
@@ -21,12 +22,12 @@ pub struct ReadReply {
     pub desk: Desk,
 }
 
-// One field walked: the place behind it and the desk with its edit; or why it is refused, its place and the desk as it
-// was.
+// One field walked: the place behind it and what its edit made; or why it is refused, its place and the entries as they
+// were.
 pub struct Walked {
     pub verdict: Verdict,
     pub at: usize,
-    pub desk: Desk,
+    pub entries: Entries,
 }
 
 // What writing a plan answers: how many octets it wrote.

@@ -4,20 +4,20 @@ ghost use mathlib.Core.Path.{_≡_};
 ghost use mathlib.Core.List.{[]};
 ghost use Prim.Native.Nat.{_+_, _≤_, _<_};
 ghost use lib.ListN.{length, drop};
-ghost use Rattle.meaning.specs.Desks.{bare, edited};
-ghost use Rattle.meaning.specs.Bytes.{going, step, ended, readPlan};
-ghost use Rattle.desk.specs.Desks.{held, deskOf, Fit, portOf, streamOf};
-ghost use Rattle.desk.specs.Edits.{FitButStairs, holdReply};
+ghost use Rattle.meaning.specs.Desks.{edited};
+ghost use Rattle.meaning.specs.Bytes.{going, step, ended, refusedAt, readPlan};
+ghost use Rattle.entries.specs.Entries.{heldIn, FitEntries, portOf, streamOf, entriesReply};
+ghost use Rattle.desk.specs.Desks.{Fit};
 ghost use Rattle.fields.specs.Reading.{told};
-ghost use Rattle.plan.specs.Reading.{octetsAt, editTold, walkedTo, refusing, readReply};
+ghost use Rattle.plan.specs.Reading.{octetsAt, editTold, walkedTo, readReply};
 use crate::ReadAnswer;
 use crate::ReadReply;
 use crate::Walked;
-use desk::Desk;
-use desk::EditReply;
-use desk::PortNumbers;
-use desk::StreamNumbers;
-use desk::Verdict;
+use entries::Entries;
+use entries::EntriesReply;
+use entries::PortNumbers;
+use entries::StreamNumbers;
+use entries::Verdict;
 use fields::FieldAt;
 use meaning::Port;
 use meaning::Refusal;
@@ -61,68 +61,70 @@ fn stream_numbers(j: Stream) -> StreamNumbers
     }
 }
 
-// The edit that a field names, with the stairs left as they were; a refused field is a refused edit.
-fn edit(d: Desk, f: FieldAt) -> EditReply
-    requires { ⌜ FitButStairs d ⌝ }
-    ensures { λ r. ⌜ (r ≡ holdReply d (edited (held d) (editTold (told f) (held d)))) × FitButStairs (r .desk) ⌝ }
+// The edit that a field names; a refused field is a refused edit.
+fn edit(e: Entries, f: FieldAt) -> EntriesReply
+    requires { ⌜ FitEntries e ⌝ }
+    ensures { λ r. ⌜ (r ≡ entriesReply (edited (heldIn e) (editTold (told f) (heldIn e))))
+        × FitEntries (r .entries) ⌝ }
 {
     match f {
-        FieldAt::Port(p) => desk::hold_port(d, port_numbers(p)),
-        FieldAt::Slot(s) => desk::hold_slot(d, s.start as u64, s.end as u64),
-        FieldAt::Stream(j) => desk::hold_stream(d, stream_numbers(j)),
-        FieldAt::Refused(why) => EditReply {
+        FieldAt::Port(p) => entries::hold_port(e, port_numbers(p)),
+        FieldAt::Slot(s) => entries::hold_slot(e, s.start as u64, s.end as u64),
+        FieldAt::Stream(j) => entries::hold_stream(e, stream_numbers(j)),
+        FieldAt::Refused(why) => EntriesReply {
             verdict: Verdict::Refused(why),
-            desk: d,
+            entries: e,
         },
     }
 }
 
-// One step of the walk, from any place and desk: the field at the place is read and its edit made.
-pub fn walk_on(plan: &[u8], at: usize, d: Desk) -> Walked
-    requires { ⌜ (at < length (now plan)) × FitButStairs d ⌝ }
-    ensures { λ r. ⌜ (r ≡ walkedTo d (step (going at (drop at (now (plan .entry))) (held d))))
-        × (r .at ≤ length (now (plan .entry))) × FitButStairs (r .desk) ⌝ }
+// One step of the walk, from any place and entries: the field at the place is read and its edit made.
+pub fn walk_on(plan: &[u8], at: usize, e: Entries) -> Walked
+    requires { ⌜ (at < length (now plan)) × FitEntries e ⌝ }
+    ensures { λ r. ⌜ (r ≡ walkedTo (heldIn e) (step (going at (drop at (now (plan .entry))) (heldIn e))))
+        × (r .at ≤ length (now (plan .entry))) × FitEntries (r .entries) ⌝ }
 {
     let f = fields::step(plan, at);
     let behind = at + octets_at(f);
-    let made = edit(d, f);
+    let made = edit(e, f);
     let verdict = made.verdict;
-    let e = made.desk;
+    let entries = made.entries;
     match verdict {
         Verdict::Accepted => Walked {
             verdict: Verdict::Accepted,
             at: behind,
-            desk: e,
+            entries,
         },
         Verdict::Refused(why) => Walked {
             verdict: Verdict::Refused(why),
             at,
-            desk: e,
+            entries,
         },
     }
 }
 
-// A plan refused at a place, and the desk that goes with it.
-fn refused_at(why: Refusal, place: usize, d: Desk) -> ReadReply
-    ensures { λ r. ⌜ r ≡ refusing why place d ⌝ }
+// A plan refused at a place, and the bare desk that goes with it.
+fn refused_at(why: Refusal, place: usize) -> ReadReply
+    ensures { λ r. ⌜ (r ≡ readReply (refusedAt why place)) × Fit (r .desk) ⌝ }
 {
+    let none = desk::bare();
     ReadReply {
         answer: ReadAnswer::Refused { why, place },
-        desk: d,
+        desk: none,
     }
 }
 
-// A plan at its end: the stairs are built once, for the slots then held. Without a field the bare desk goes back.
-fn finish(d: Desk, at: usize, none: Desk) -> ReadReply
-    requires { ⌜ FitButStairs d × (none ≡ deskOf bare) ⌝ }
-    ensures { λ r. ⌜ (r ≡ readReply (ended (going at [] (held d)))) × Fit (r .desk) ⌝ }
+// A plan at its end: the stairs are built once, for the slots then held. Without a field it is refused.
+fn finish(e: Entries, at: usize) -> ReadReply
+    requires { ⌜ FitEntries e ⌝ }
+    ensures { λ r. ⌜ (r ≡ readReply (ended (going at [] (heldIn e)))) × Fit (r .desk) ⌝ }
 {
-    if !d.opened {
-        return refused_at(Refusal::OutOfTurn, 0, none);
+    if !e.opened {
+        return refused_at(Refusal::OutOfTurn, 0);
     }
     ReadReply {
         answer: ReadAnswer::Read,
-        desk: desk::with_stairs(d),
+        desk: desk::with_stairs(e),
     }
 }
 
@@ -130,17 +132,16 @@ fn finish(d: Desk, at: usize, none: Desk) -> ReadReply
 pub fn read(plan: &[u8]) -> ReadReply
     ensures { λ r. ⌜ (r ≡ readReply (readPlan (now (plan .entry)))) × Fit (r .desk) ⌝ }
 {
-    let none = desk::bare();
-    let mut d = none;
+    let mut e = entries::none();
     let mut at: usize = 0;
     while at < plan.len() {
-        let w = walk_on(plan, at, d);
+        let w = walk_on(plan, at, e);
         let verdict = w.verdict;
         if let Verdict::Refused(why) = verdict {
-            return refused_at(why, w.at, none);
+            return refused_at(why, w.at);
         }
         at = w.at;
-        d = w.desk;
+        e = w.entries;
     }
-    finish(d, at, none)
+    finish(e, at)
 }

@@ -1,6 +1,4 @@
 pub mod Parts
-pub mod Digits
-pub mod Words
 pub mod Rows
 pub mod Sizes
 pub mod Whole

@@ -1,37 +1,24 @@
--- A text written part by part: each part fills the front of what those before it leave of the room.
+-- A row of parts written in turn: each fills the front of what those before it leave of the room.
 -- Assumes nothing.
-use mathlib.Core.Path.{_≡_, refl, sym, ap, subst, _∙_}
+use mathlib.Core.Path.{_≡_, refl, sym, ap, _∙_}
 use mathlib.Core.List.{List, [], _∷_, _++_, append-nil}
-use Prim.Native.Nat.{ℕ, suc, _+_, _-_, _≤_, _<_}
+use Prim.Native.Nat.{ℕ, _+_, _-_, _≤_, _<_}
 use native.Mathlib.Numerals.{add-one}
 use native.Mathlib.Omega.{arith}
 use lib.ListN.{length, getD, take, drop, length-append, length-drop, take-append-drop}
-use lib.Seq.{take-suc, take-all}
+use lib.Seq.{take-suc, take-all, length-take-le}
 use borrow.Rule.Slice.PartMut.{midOf, putMid}
 use Rattle.laws.specs.Lists.{joined}
 use Rattle.laws.proofs.Joining.{joined-append}
-use Rattle.fields.proofs.Rooms.{fill-next}
-use Rattle.report.specs.Texts.{Wrote}
+use Rattle.lines.specs.Texts.{Wrote}
+use Rattle.lines.proofs.Written.{wrote-as, wrote-length, wrote-next}
 
--- w is written, and f fills the front of what is left
-pub wrote-next : {w f r xs ys : List ℕ} {a k : ℕ} → Wrote w a r xs → Wrote f k (midOf a (length xs - a) xs) ys
-    → Wrote (w ++ f) (a + k) r (putMid a (length xs - a) xs ys)
-wrote-next {w} {f} {r} {xs} {ys} {a} {k} p q =
-    record {
-      count = omega (arith, p .count, q .count, length-append w f);
-      room = fill-next a k xs ys w f r (sym (p .count)) (p .room) (q .room);
-    }
-
--- the same text by another name
-pub wrote-as : {w v r xs : List ℕ} {a : ℕ} → w ≡ v → Wrote w a r xs → Wrote v a r xs
-wrote-as {w} {v} {r} {xs} {a} e p = subst (λ (l : List ℕ). Wrote l a r xs) e p
-
--- the room keeps its length where there was room
-pub wrote-length : {w r xs : List ℕ} {a : ℕ} → length w ≤ length r → Wrote w a r xs → length xs ≡ length r
-wrote-length {w} {r} {xs} {a} h p =
-    ap length (p .room) ∙ length-append w (drop a r) ∙ omega (arith, p .count, length-drop a r)
-
--- ---- a row of parts
+-- what is left of the room, from this place on, has room for k octets
+pub rest-fits : (room : List ℕ) (at k : ℕ) → at + k ≤ length room → k ≤ length (midOf at (length room - at) room)
+rest-fits room at k h =
+    let rest : length (midOf at (length room - at) room) ≡ length room - at =
+    length-take-le (length room - at) (drop at room) (omega (arith, length-drop at room)) in
+    omega (arith, rest)
 
 module _ {A : Type 0} (part : A → List ℕ) where
   -- with the next part

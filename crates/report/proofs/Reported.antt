@@ -3,7 +3,7 @@
 use mathlib.Core.Path.{_≡_, refl, sym, ap, _∙_}
 use mathlib.Core.Logic.{⊎-elim}
 use mathlib.Core.Bool.{true}
-use mathlib.Core.List.{List, [], _∷_, _++_}
+use mathlib.Core.List.{List, _++_}
 use Prim.Native.Nat.{ℕ, _+_, _^_, _≤_, _<_}
 use native.Mathlib.Omega.{arith}
 use lib.Dec.{lit<}
@@ -15,10 +15,10 @@ use Rattle.meaning.specs.declared.Refusal.the-variants.{Late, OverHorizon}
 use Rattle.meaning.specs.Refusals.{numberOf}
 use Rattle.meaning.specs.Desks.{bare, opened}
 use Rattle.meaning.specs.Desks.{Desk as Plan}
-use Rattle.meaning.specs.Bytes.{Reading, going, stopped, walk, Outcome, read, refusedAt, ended, readPlan, deskRead}
+use Rattle.meaning.specs.Bytes.{Reading, going, stopped, Outcome, read, refusedAt, ended, readPlan, deskRead}
 use Rattle.meaning.specs.Findings.{octetsIn, decimal, told, newline, refusedLine, printed, findings}
 use Rattle.meaning.proofs.Decimals.{decimal-length}
-use Rattle.meaning.proofs.Edits.{edits-short, edit-opens}
+use Rattle.meaning.proofs.Edits.{edits-short}
 use Rattle.meaning.proofs.Accepted.{accepted-sound, refused-when}
 use Rattle.desk.specs.declared.Desk.{Desk}
 use Rattle.desk.specs.Desks.{filledDesk, deskOf, held}
@@ -26,7 +26,7 @@ use Rattle.desk.proofs.Held.{held-of}
 use Rattle.plan.specs.declared.ReadAnswer.the-variants as reads
 use Rattle.plan.specs.declared.ReadReply.{ReadReply}
 use Rattle.plan.specs.Reading.{readReply}
-use Rattle.report.specs.Texts.{Wrote}
+use Rattle.lines.specs.Texts.{Wrote}
 use Rattle.report.proofs.Sizes.{lines-short}
 
 -- ---- its length

@@ -23,14 +23,14 @@ use Rattle.meaning.proofs.Printing.{response-own}
 use Rattle.rows.specs.Rows.{noStream}
 use Rattle.table.specs.Lookup.{paired, stairsIn}
 use Rattle.desk.specs.declared.Desk.{Desk}
-use Rattle.desk.specs.declared.Figure.{Figure}
 use Rattle.desk.specs.declared.Figure.the-variants as Figures
 use Rattle.desk.specs.declared.FigureReply.{FigureReply}
 use Rattle.desk.specs.Desks.{held, Fit, figureOf, figureReply, portIn, slotsIn, streamsIn}
-use Rattle.desk.proofs.Opened.{open-desk, fit-but-stairs}
 use Rattle.desk.proofs.OpenFits.{open-fits}
-use Rattle.report.specs.Texts.{Wrote, refusalWords, figureWords, figureLine, lineIn}
-use Rattle.report.proofs.Parts.{wrote-as, Parts, part-fits, parts-turn}
+use Rattle.lines.specs.Texts.{Wrote, refusalWords, figureWords, figureLine}
+use Rattle.lines.proofs.Written.{wrote-as}
+use Rattle.report.specs.Lines.{lineIn}
+use Rattle.report.proofs.Parts.{Parts, part-fits, parts-turn}
 
 -- ---- stairs in two rows
 
@@ -105,9 +105,15 @@ module _ (d : Desk) (f : Fit d) (o : d .opened ≡ true) (j : Stream) (m : Mem j
 
 -- ---- the loop over the stairs
 
-module _ (far tot : List ℕ) (n : ℕ) (a : n ≤ length far) (b : n ≤ length tot) (r : List ℕ)
+module _ (far tot : List ℕ) (n : ℕ) (few : n ≤ 993) (lf : length far ≡ 993) (lt : length tot ≡ 993) (r : List ℕ)
     (fits : length (joined stairLine (stairsIn far tot n)) ≤ length r) (room : List ℕ) (at i : ℕ) (h : i < n)
     (p : Parts stairLine r (stairsIn far tot n) room at i) where
+  a : n ≤ length far
+  a = omega arith
+
+  b : n ≤ length tot
+  b = omega arith
+
   abbrev x : Stair
   x = record { far = getD far i 0; total = getD tot i 0 }
 
@@ -136,7 +142,7 @@ module _ (far tot : List ℕ) (n : ℕ) (a : n ≤ length far) (b : n ≤ length
 
 module _ (d : Desk) (f : Fit d) (o : d .opened ≡ true) where
   pub streams-held : (d .nstreams ≡ length (streamsIn d)) × (d .nstreams ≤ 64)
-  streams-held = let h = open-desk d (fit-but-stairs d f) o in (h .streams-count, h .streams-few)
+  streams-held = let h = open-fits d f o in (h .streams-count, h .few-streams)
 
   module _ (r : List ℕ) (fits : length (joined (lineIn d) (streamsIn d)) ≤ length r) (room : List ℕ) (at k : ℕ)
       (h : k < d .nstreams) (p : Parts (lineIn d) r (streamsIn d) room at k) (j : Stream)

@@ -22,8 +22,9 @@ use Rattle.desk.specs.declared.Desk.{Desk}
 use Rattle.desk.specs.declared.RunsReply.{RunsReply}
 use Rattle.desk.specs.Desks.{held, Fit, rowsOf, runsReply, portIn, slotsIn, streamsIn, gateIn}
 use Rattle.desk.proofs.OpenFits.{OpenFits, open-fits}
-use Rattle.report.specs.Texts.{Wrote, firstIn, lineIn}
-use Rattle.report.proofs.Parts.{wrote-as}
+use Rattle.lines.specs.Texts.{Wrote}
+use Rattle.lines.proofs.Written.{wrote-as}
+use Rattle.report.specs.Lines.{firstIn, lineIn}
 use Rattle.report.proofs.Sizes.{blocked-length, first-short, stairs-short, streams-short}
 
 -- how long the parts are at most, and how many stairs there are

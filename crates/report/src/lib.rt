@@ -9,11 +9,8 @@ ghost use Rattle.meaning.specs.Bytes.{read, refusedAt};
 ghost use Rattle.meaning.specs.Findings.{stairLine, printed, findings};
 ghost use Rattle.table.specs.Lookup.{stairsIn};
 ghost use Rattle.desk.specs.Desks.{held, Fit, streamsIn};
-ghost use Rattle.report.specs.Texts.{Wrote, firstIn, lineIn};
-
-mod lines;
-mod texts;
-
+ghost use Rattle.lines.specs.Texts.{Wrote};
+ghost use Rattle.report.specs.Lines.{firstIn, lineIn};
 use desk::Desk;
 use lines::put_blocked;
 use lines::put_refusal;

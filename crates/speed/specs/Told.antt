@@ -2,8 +2,8 @@
 use Prim.Native.Nat.{ℕ}
 use Rattle.bound.specs.declared.Response.{Response}
 use Rattle.bound.specs.declared.Response.the-variants.{Within, Endless}
-use Rattle.bound.specs.declared.Sizes.{Sizes}
-use Rattle.bound.specs.declared.Own.{Own}
+use Rattle.search.specs.declared.Sizes.{Sizes}
+use Rattle.search.specs.declared.Own.{Own}
 
 abbrev pub sizes : (n m cycle : ℕ) → Sizes
 sizes n m cycle = record { n = n; m = m; cycle = cycle }

@@ -1,12 +1,13 @@
 // The response bound as a number, for the program in bench/ that times it.
 ghost use mathlib.Core.Path.{_≡_};
 ghost use Rattle.meaning.specs.Response.{bound};
-ghost use Rattle.bound.specs.Searches.{tableV};
-ghost use Rattle.bound.specs.Answers.{responseOf, Beside, RowsAsk};
+ghost use Rattle.search.specs.Searches.{tableV};
+ghost use Rattle.frames.specs.Windows.{Beside};
+ghost use Rattle.bound.specs.Answers.{responseOf, RowsAsk};
 ghost use Rattle.speed.specs.Told.{numberOf, sizes, asked};
-use bound::Own;
 use bound::Response;
-use bound::Sizes;
+use search::Own;
+use search::Sizes;
 
 // The bound of a stream beside streams that are unpacked; 1,000,000,000 for an endless one.
 #[no_mangle]

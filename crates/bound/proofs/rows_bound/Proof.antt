@@ -6,8 +6,8 @@ use Prim.Native.Nat.{ℕ, _+_, _-_}
 use native.Mathlib.Omega.{arith}
 use lib.ListN.{replicate}
 use Rattle.meaning.specs.Arrivals.{mostIn}
-use Rattle.bound.specs.Searches.{tableOf, TableBounds, ownStream}
-use Rattle.bound.proofs.Arriving.{frames-grow}
+use Rattle.search.specs.Searches.{tableOf, TableBounds, ownStream}
+use Rattle.arrivals.proofs.Arriving.{frames-grow}
 use Rattle.bound.proofs.Bounding.{zeros-in, calm-fits, endless-first, endless-window, beside-in, bound-within}
 use borrow.Author.Needs.{needs}
 use Rattle.bound.proofs.rows_bound.Statement.{statement}

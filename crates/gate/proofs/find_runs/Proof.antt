@@ -1,6 +1,10 @@
+-- `gate::find_runs` meets its contract: the runs behind the first slot, and its own last where its guard reaches
+-- back over the cycle's end.
+-- Assumes nothing.
 use mathlib.Core.Path.{_≡_, sym, ap, _∙_}
 use mathlib.Core.List.{List}
-use Prim.Native.Nat.{ℕ, _+_, _-_, _≤_, _<_}
+use Prim.Native.Nat.{ℕ, _+_, _-_, _≤_, _<_, zero-le}
+use native.Mathlib.Nat.{le-refl}
 use native.Mathlib.Omega.{arith}
 use lib.ListN.{length, getD, take}
 use Rattle.meaning.specs.declared.Run.{Run}
@@ -13,11 +17,22 @@ use Rattle.gate.proofs.Turns.{left, left-few, runs-plain, runs-hung, ru
 use borrow.Author.Needs.{needs}
 use Rattle.gate.proofs.find_runs.Statement.{statement}
 use Rattle.gate.proofs.find_runs.Tie as tie
-use Rattle.gate.proofs.find_runs.Reads as reads
-use Rattle.gate.proofs.find_runs.Lts as lts
-use Rattle.gate.proofs.hang_ends.Reads as hang-ends-reads
-use Rattle.gate.proofs.run_with.Reads as run-with-reads
-use Rattle.gate.proofs.runs_from.Reads as runs-from-reads
+
+-- ---- numbers, apart from the places of the code: there omega would read all that is known
+
+last-in : {n : ℕ} → 1 ≤ n → n - 1 < n
+last-in h = omega arith
+
+start-in : {start end stop n : ℕ} → start < end → end ≤ stop → stop ≤ n → start ≤ n
+start-in a b c = omega arith
+
+end-in : {end stop n : ℕ} → end ≤ stop → stop ≤ n → end + n ≤ n + n
+end-in a b = omega arith
+
+twice : {end n : ℕ} → end ≤ n → end ≤ n + n
+twice h = omega arith
+
+-- ---- places
 
 held : (c : tie.Else1) → Held (c .before .args .g) (c .before .args .t2) (c .before .args .n)
 held c =
@@ -39,7 +54,7 @@ inside : (c : tie.After-hang-ends)
 inside c =
     let h = held (c .before .before) in
     let (x, y, z) = stop-in h (stopping c) 0 (h .some) in
-    (h .some, x, y, z, slot-in h (c .before .before .before .args .n - 1) (omega arith) .1)
+    (h .some, x, y, z, slot-in h (c .before .before .before .args .n - 1) (last-in (h .some)) .1)
 
 -- places before: where the ends were found, and where the runs behind the first slot were
 abbrev hung : tie.After-struct-known5 → tie.After-hang-ends
@@ -63,101 +78,88 @@ few c =
     let e = row-count (rest c) (found c .runs-from2 .ensures) in
     (omega arith, omega arith)
 
--- src/lib.rt:134:9
 returns : tie.Need-returns
 returns c =
     let a = c .before .args in
     row-none ∙ ap runRow (sym (ap (λ (k : ℕ). runs (a .g) (take k (a .t2))) (c .if1 .taken) ∙ runs-none (a .g)))
 
--- src/lib.rt:139:17
 add-reach : tie.Need-add-reach
 add-reach c = search needs
 
--- src/lib.rt:140:16
 hang-ends-requires : tie.Need-hang-ends-requires
 hang-ends-requires c κs = search needs
 
--- src/lib.rt:141:17
 array-copy-out-first : tie.Need-array-copy-out-first
 array-copy-out-first c = search needs
 
--- src/lib.rt:142:22
 sub-last : tie.Need-sub-last
 sub-last c = search needs
 
--- src/lib.rt:142:16
 mul-last : tie.Need-mul-last
 mul-last c = search needs
 
--- src/lib.rt:142:16
 array-copy-out-last : tie.Need-array-copy-out-last
 array-copy-out-last c = search needs
 
--- src/lib.rt:144:9
 runs-from-requires : tie.Need-runs-from-requires
 runs-from-requires c κs =
     let h = c .before .before .before .before .before in
     let s = h .before .before .before in
     let i = inside h in
-    (i .0, s .pre .0, s .pre .1, s .pre .2, h .hang-ends .ensures, omega arith, omega arith)
+    (i .0, s .pre .0, s .pre .1, s .pre .2, h .hang-ends .ensures, zero-le, twice (i .4))
 
--- src/lib.rt:144:9
 returns-2 : tie.Need-returns-2
 returns-2 c =
     let h = held (c .before .before .before .before .before .before .before .before) in
     c .runs-from .ensures ∙ ap runRow (sym (runs-plain h (c .before .if2 .taken)))
 
--- src/lib.rt:146:49
 add-runs-from : tie.Need-add-runs-from
 add-runs-from c = let i = inside (hung c) in omega arith
 
--- src/lib.rt:146:9
 runs-from-requires-2 : tie.Need-runs-from-requires-2
 runs-from-requires-2 c κs =
     let h = hung c in
     let s = h .before .before .before in
     let i = inside h in
-    (i .0, s .pre .0, s .pre .1, s .pre .2, h .hang-ends .ensures, i .0, omega arith)
+    (i .0, s .pre .0, s .pre .1, s .pre .2, h .hang-ends .ensures, i .0, end-in (i .2) (i .3))
 
--- src/lib.rt:147:8
 add-if3 : tie.Need-add-if3
 add-if3 c = let i = inside (hung (c .before .before .before)) in omega arith
 
--- src/lib.rt:147:33
 add-if3-2 : tie.Need-add-if3-2
 add-if3-2 c = let i = inside (hung (found c .before)) in omega arith
 
--- src/lib.rt:148:9
 returns-3 : tie.Need-returns-3
 returns-3 c =
     let f = found (c .before) in
     let h = held (hung (f .before) .before .before) in
     f .runs-from2 .ensures ∙ ap runRow (sym (runs-hung h (f .before .before .before .if2 .left) (c .if3 .taken)))
 
--- src/lib.rt:150:15
 array-read-far : tie.Need-array-read-far
 array-read-far c = search needs
 
--- src/lib.rt:153:14
 run-with-requires : tie.Need-run-with-requires
 run-with-requires c κs =
     let h = hung (found (c .before .before) .before) in
-    let i = inside h in
-    (h .before .before .before .pre .1, omega arith, omega arith, omega arith, omega arith, omega arith)
+    let (_, x, y, z, _) = inside h in
+    let a = h .before .before .before in (
+      a .pre .1,
+      start-in x y z,
+      z,
+      z,
+      start-in x y (le-refl _),
+      omega (arith, c .before .if3 .left),
+    )
 
--- src/lib.rt:153:5
 mul-row : tie.Need-mul-row
 mul-row c = let m = few (c .before .before .before) in omega arith
 
--- src/lib.rt:153:5
 array-set-from-row : tie.Need-array-set-from-row
 array-set-from-row c = few (c .before .before .before) .0
 
--- src/lib.rt:154:17
 add-t22 : tie.Need-add-t22
 add-t22 c = let m = few (c .before .before .before) in omega arith
 
--- src/lib.rt:129:1
 returns-4 : tie.Need-returns-4
 returns-4 c =
     let k = c .before .before .before in

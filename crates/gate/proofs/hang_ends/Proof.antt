@@ -1,3 +1,5 @@
+-- `gate::hang_ends` meets its contract: the ends are filled in from the last slot back.
+-- Assumes nothing.
 use mathlib.Core.Path.{_≡_, _∙_}
 use mathlib.Core.Logic.{⊎-elim}
 use mathlib.Core.Bool.{cond}
@@ -11,8 +13,6 @@ use Rattle.gate.proofs.Hangs.{slotAt, Held, slot-in, Hangs, hangs-start
 use borrow.Author.Needs.{needs}
 use Rattle.gate.proofs.hang_ends.Statement.{statement}
 use Rattle.gate.proofs.hang_ends.Tie as tie
-use Rattle.gate.proofs.hang_ends.Reads as reads
-use Rattle.gate.proofs.hang_ends.Lts as lts
 
 abbrev Inv-loop : tie.InvT-loop
 Inv-loop n slots reach ends₀ i₀ ends i = (i < n) × (length ends ≡ 32) × Hangs reach slots n i ends
@@ -38,33 +38,26 @@ stored c =
     let a = k .before .before .before .args in
     let t = slotAt (a .t2) (k .loop .i) .start in
     let s = slotAt (a .t2) (k .loop .i - 1) .end + reachOf (a .g) in
-    ⊎-elim (λ w. rw (le-leb t s (omega arith)) (w .1)) (λ w. rw (lt-leb t s (omega arith)) (w .1)) (c .if1 .came)
+    ⊎-elim (λ w. rw (le-leb t s (w .0 .taken)) (w .1)) (λ w. rw (lt-leb t s (w .0 .left)) (w .1)) (c .if1 .came)
 
--- src/lib.rt:50:17
 add-reach : tie.Need-add-reach Inv-loop μ-loop
 add-reach c = search needs
 
--- src/lib.rt:52:17
 sub-i : tie.Need-sub-i Inv-loop μ-loop
 sub-i c = search needs
 
--- src/lib.rt:53:16
 mul-last : tie.Need-mul-last Inv-loop μ-loop
 mul-last c = search needs
 
--- src/lib.rt:53:16
 array-copy-out-last : tie.Need-array-copy-out-last Inv-loop μ-loop
 array-copy-out-last c = search needs
 
--- src/lib.rt:54:5
 mul-ends : tie.Need-mul-ends Inv-loop μ-loop
 mul-ends c = search needs
 
--- src/lib.rt:54:5
 array-write-ends : tie.Need-array-write-ends Inv-loop μ-loop
 array-write-ends c = search needs
 
--- src/lib.rt:55:5
 loop-holds : tie.Need-loop-holds Inv-loop μ-loop
 loop-holds c =
     let s = c .before .before in (
@@ -73,54 +66,42 @@ loop-holds c =
       hangs-start (held s) (reachOf (s .args .g)) (replicate 32 0) (omega arith),
     )
 
--- src/lib.rt:56:17
 mul-t : tie.Need-mul-t Inv-loop μ-loop
 mul-t c = search needs
 
--- src/lib.rt:56:17
 array-copy-out-t : tie.Need-array-copy-out-t Inv-loop μ-loop
 array-copy-out-t c = search needs
 
--- src/lib.rt:57:17
 sub-j : tie.Need-sub-j Inv-loop μ-loop
 sub-j c = search needs
 
--- src/lib.rt:58:17
 mul-s : tie.Need-mul-s Inv-loop μ-loop
 mul-s c = search needs
 
--- src/lib.rt:58:17
 array-copy-out-s : tie.Need-array-copy-out-s Inv-loop μ-loop
 array-copy-out-s c = search needs
 
--- src/lib.rt:59:31
 add-if1 : tie.Need-add-if1 Inv-loop μ-loop
 add-if1 c =
     let k = c .before .before .before .before in
     let s = slot-in (held (k .before .before .before)) (k .loop .i - 1) (omega arith) in
     omega arith
 
--- src/lib.rt:60:13
 mul-e : tie.Need-mul-e Inv-loop μ-loop
 mul-e c = search needs
 
--- src/lib.rt:60:13
 array-read-e : tie.Need-array-read-e Inv-loop μ-loop
 array-read-e c = search needs
 
--- src/lib.rt:64:9
 mul-ends-2 : tie.Need-mul-ends-2 Inv-loop μ-loop
 mul-ends-2 c = search needs
 
--- src/lib.rt:64:9
 array-write-ends-2 : tie.Need-array-write-ends-2 Inv-loop μ-loop
 array-write-ends-2 c = search needs
 
--- src/lib.rt:55:5
 loop-less : tie.Need-loop-less Inv-loop μ-loop
 loop-less c = search needs
 
--- src/lib.rt:55:5
 loop-again : tie.Need-loop-again Inv-loop μ-loop
 loop-again c =
     let k = c .before .before .before .before .before .before in
@@ -131,7 +112,6 @@ loop-again c =
           (omega arith) (omega arith) (k .loop .inv .2) (stored c),
     )
 
--- src/lib.rt:46:1
 returns : tie.Need-returns Inv-loop μ-loop
 returns c =
     let k = c .before in

@@ -1,3 +1,5 @@
+-- `gate::run_with` meets its contract: each test of the code is that of the definition.
+-- Assumes nothing.
 use mathlib.Core.Path.{_≡_}
 use mathlib.Core.Logic.{⊎-elim}
 use mathlib.Core.Bool.{cond}
@@ -10,8 +12,6 @@ use Rattle.gate.specs.Walks.{runWith}
 use borrow.Author.Needs.{needs}
 use Rattle.gate.proofs.run_with.Statement.{statement}
 use Rattle.gate.proofs.run_with.Tie as tie
-use Rattle.gate.proofs.run_with.Reads as reads
-use Rattle.gate.proofs.run_with.Lts as lts
 
 -- the start, by the test on the guard
 start-is : (c : tie.Joined1)
@@ -34,39 +34,30 @@ stop-is c =
     (λ w. rw (le-leb (a .first + a .g .cycle) (a .e + reachOf (a .g)) (omega arith)) (w .2))
     (λ w. rw (lt-leb (a .first + a .g .cycle) (a .e + reachOf (a .g)) (omega arith)) (w .1)) (c .if2 .came)
 
--- src/lib.rt:77:17
 add-reach : tie.Need-add-reach
 add-reach c = search needs
 
--- src/lib.rt:79:9
 add-start : tie.Need-add-start
 add-start c = search needs
 
--- src/lib.rt:79:9
 sub-start : tie.Need-sub-start
 sub-start c = search needs
 
--- src/lib.rt:83:19
 add-if2 : tie.Need-add-if2
 add-if2 c = search needs
 
--- src/lib.rt:83:38
 add-if2-2 : tie.Need-add-if2-2
 add-if2-2 c = search needs
 
--- src/lib.rt:84:9
 add-stop : tie.Need-add-stop
 add-stop c = search needs
 
--- src/lib.rt:90:14
 add-t12 : tie.Need-add-t12
 add-t12 c = ⊎-elim (λ w. omega arith) (λ w. omega arith) (c .before .if2 .came)
 
--- src/lib.rt:90:14
 sub-t13 : tie.Need-sub-t13
 sub-t13 c = ⊎-elim (λ w. omega arith) (λ w. omega arith) (c .before .before .if2 .came)
 
--- src/lib.rt:72:1
 returns : tie.Need-returns
 unfolding runWith
 returns c =

@@ -1,6 +1,9 @@
+-- `gate::runs_from` meets its contract: the row is filled with the runs that the slots passed start.
+-- Assumes nothing.
 use mathlib.Core.Logic.{⊎-elim}
 use mathlib.Core.Path.{_≡_}
-use Prim.Native.Nat.{_+_, _-_, _≤_, _<_}
+use Prim.Native.Nat.{ℕ, _+_, _-_, _≤_, _<_}
+use native.Mathlib.Nat.{le-refl}
 use native.Mathlib.Omega.{arith}
 use lib.ListN.{length, getD}
 use Rattle.gate.specs.Rows.{noRun}
@@ -11,9 +14,6 @@ use Rattle.gate.proofs.Turns.{left, left-wide, left-narrow, left-none}
 use borrow.Author.Needs.{needs}
 use Rattle.gate.proofs.runs_from.Statement.{statement}
 use Rattle.gate.proofs.runs_from.Tie as tie
-use Rattle.gate.proofs.runs_from.Reads as reads
-use Rattle.gate.proofs.runs_from.Lts as lts
-use Rattle.gate.proofs.run_with.Reads as run-with-reads
 
 abbrev Inv-loop : tie.InvT-loop
 Inv-loop g n from before slots ends reach first far row₀ m₀ end₀ i₀ row m end i =
@@ -22,6 +22,28 @@ Inv-loop g n from before slots ends reach first far row₀ m₀ end₀ i₀ row 
 
 abbrev μ-loop : tie.MeasureT-loop
 μ-loop g n from before slots ends reach first far row₀ m₀ end₀ i₀ row m end i = n - i
+
+-- ---- numbers, apart from the places of the code: there omega would read all that is known
+
+next-in : {i n : ℕ} → i < n → i + 1 ≤ n
+next-in h = omega arith
+
+start-in : {start end stop n : ℕ} → start < end → end ≤ stop → stop ≤ n → start ≤ n
+start-in a b c = omega arith
+
+end-in : {end stop n : ℕ} → end ≤ stop → stop ≤ n → end + n ≤ n + n
+end-in a b = omega arith
+
+place-in : {m i n : ℕ} → m ≤ i → i < n → n ≤ 32 → m < 32
+place-in a b c = omega arith
+
+count-put : {m k i : ℕ} → k ≡ m + 1 → m ≤ i → k ≤ i + 1
+count-put e h = omega arith
+
+count-skip : {m k i : ℕ} → k ≡ m → m ≤ i → k ≤ i + 1
+count-skip e h = omega arith
+
+-- ---- places
 
 held : (c : tie.Start Inv-loop μ-loop) → Held (c .args .g) (c .args .t2) (c .args .n)
 held c =
@@ -41,111 +63,101 @@ inside : (c : tie.In-loop Inv-loop μ-loop)
     (s .start < s .end) × (s .end ≤ e) × (e ≤ a .g .cycle)
 inside c =
     let s = c .before .before .before .before in
-    stop-in (held s) (stopping s) (c .before .loop .i) (omega arith)
+    stop-in (held s) (stopping s) (c .before .loop .i) (c .loop-test .taken)
 
--- src/lib.rt:107:17
 add-reach : tie.Need-add-reach Inv-loop μ-loop
 add-reach c = search needs
 
--- src/lib.rt:108:17
 array-copy-out-first : tie.Need-array-copy-out-first Inv-loop μ-loop
 array-copy-out-first c = search needs
 
--- src/lib.rt:109:15
 array-read-far : tie.Need-array-read-far Inv-loop μ-loop
 array-read-far c = search needs
 
--- src/lib.rt:114:5
 loop-holds : tie.Need-loop-holds Inv-loop μ-loop
 loop-holds c = (omega arith, omega arith, omega arith, filling-start 32 noRun _)
 
--- src/lib.rt:115:17
 mul-s : tie.Need-mul-s Inv-loop μ-loop
 mul-s c = search needs
 
--- src/lib.rt:115:17
 array-copy-out-s : tie.Need-array-copy-out-s Inv-loop μ-loop
 array-copy-out-s c = search needs
 
--- src/lib.rt:116:12
 add-if1 : tie.Need-add-if1 Inv-loop μ-loop
 add-if1 c = search needs
 
--- src/lib.rt:116:26
 add-if1-2 : tie.Need-add-if1-2 Inv-loop μ-loop
 add-if1-2 c = let s = inside (c .before .before .before) in omega arith
 
--- src/lib.rt:117:21
 mul-e : tie.Need-mul-e Inv-loop μ-loop
 mul-e c = search needs
 
--- src/lib.rt:117:21
 array-read-e : tie.Need-array-read-e Inv-loop μ-loop
 array-read-e c = search needs
 
--- src/lib.rt:118:22
 run-with-requires : tie.Need-run-with-requires Inv-loop μ-loop
 run-with-requires c κs =
     let h = c .before .before .before .before in
     let s = h .before .before .before .before in
     let here = inside h in
-    let first = stop-in (held s) (stopping s) 0 (omega arith) in
-    (s .pre .2, omega arith, omega arith, omega arith, omega arith, omega arith)
+    let first = stop-in (held s) (stopping s) 0 (s .pre .0) in (
+      s .pre .2,
+      start-in (first .0) (first .1) (first .2),
+      first .2,
+      here .2,
+      start-in (here .0) (here .1) (le-refl _),
+      omega (arith, c .if1 .taken),
+    )
 
--- src/lib.rt:118:13
 mul-row : tie.Need-mul-row Inv-loop μ-loop
 mul-row c = search needs
 
--- src/lib.rt:118:13
 array-set-from-row : tie.Need-array-set-from-row Inv-loop μ-loop
 array-set-from-row c = search needs
 
--- src/lib.rt:119:13
 add-m : tie.Need-add-m Inv-loop μ-loop
 add-m c = search needs
 
--- src/lib.rt:121:15
 add-end : tie.Need-add-end Inv-loop μ-loop
 add-end c = let s = inside (c .before .before .before .before .before .before) in omega arith
 
--- src/lib.rt:122:9
 add-i : tie.Need-add-i Inv-loop μ-loop
 add-i c = search needs
 
--- src/lib.rt:114:5
 loop-less : tie.Need-loop-less Inv-loop μ-loop
 loop-less c = search needs
 
--- src/lib.rt:114:5
 loop-again : tie.Need-loop-again Inv-loop μ-loop
 loop-again c =
     let h = c .before .before .before .before .before .before in
     let k = h .before in
     let s = k .before .before .before in
     let here = inside h in
-    let run = left-wide (held s) (stopping s) (k .loop .end) (k .loop .i) (omega arith) in
-    let none = left-narrow (held s) (k .loop .end) (k .loop .i) (omega arith) in
+    let more = next-in (h .loop-test .taken) in
+    let on = end-in (here .1) (here .2) in
+    let run = left-wide (held s) (stopping s) (k .loop .end) (k .loop .i) (h .loop-test .taken) in
+    let none = left-narrow (held s) (k .loop .end) (k .loop .i) (h .loop-test .taken) in
+    let place = place-in (k .loop .inv .2) (h .loop-test .taken) (s .pre .1) in
     ⊎-elim
     (λ w. (
-      omega arith,
-      omega arith,
-      omega arith,
-      rw (w .2, w .3) (filling-put (k .loop .inv .3) (run (w .0 .taken)) (w .1 .ensures) (omega arith)),
+      more,
+      on,
+      count-put (w .3) (k .loop .inv .2),
+      rw (w .2, w .3) (filling-put (k .loop .inv .3) (run (w .0 .taken)) (w .1 .ensures) place),
     ))
     (λ w. (
-      omega arith,
-      omega arith,
-      omega arith,
+      more,
+      on,
+      count-skip (w .2) (k .loop .inv .2),
       rw (w .1, w .2) (filling-skip (k .loop .inv .3) (none (w .0 .left))),
     ))
     (c .before .before .if1 .came)
 
--- src/lib.rt:95:1
 returns : tie.Need-returns Inv-loop μ-loop
 returns c =
     let k = c .before in
     row-filled (k .loop .inv .3)
-    (left-none (held (k .before .before .before)) (k .loop .end) (k .loop .i) (omega arith))
+    (left-none (held (k .before .before .before)) (k .loop .end) (k .loop .i) (c .loop-test .left))
 
 pub runs-from-spec : {M : Type 1} → statement M
 runs-from-spec =

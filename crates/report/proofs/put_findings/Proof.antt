@@ -1,7 +1,7 @@
 -- `report::put_findings` meets its contract: each part fills the front of what is left.
 -- Assumes nothing.
 use borrow.Author.Needs.{needs}
-use Rattle.report.proofs.Parts.{wrote-as, wrote-next}
+use Rattle.lines.proofs.Written.{wrote-as, wrote-next}
 use Rattle.report.proofs.Whole.{sized, whole-text}
 use Rattle.report.proofs.put_findings.Statement.{statement}
 use Rattle.report.proofs.put_findings.Tie as tie

@@ -1,13 +1,12 @@
 -- `report::put_streams` meets its contract: each line fills the front of what those before it leave.
 -- Assumes nothing.
-use mathlib.Core.Path.{_≡_, refl}
+use mathlib.Core.Path.{refl}
 use Prim.Native.Nat.{_-_, _≤_}
 use native.Mathlib.Omega.{arith}
-use lib.ListN.{length}
 use borrow.Author.Needs.{needs}
 use Rattle.desk.specs.Desks.{streamsIn}
-use Rattle.report.specs.Texts.{lineIn}
-use Rattle.report.proofs.Parts.{Parts, parts-start, parts-end}
+use Rattle.report.specs.Lines.{lineIn}
+use Rattle.report.proofs.Parts.{rest-fits, Parts, parts-start, parts-end}
 use Rattle.report.proofs.Rows.{streams-held, stream-fits, stream-turn}
 use Rattle.report.proofs.put_streams.Statement.{statement}
 use Rattle.report.proofs.put_streams.Tie as tie
@@ -39,10 +38,10 @@ response-requires : tie.Need-response-requires Inv-loop μ-loop
 response-requires c κs = c .before .before .before .before .before .before .pre .0
 
 sub-put-stream : tie.Need-sub-put-stream Inv-loop μ-loop
-sub-put-stream c = search needs
+sub-put-stream c = c .before .before .before .before .loop .inv .2 .within
 
 part-put-stream-start : tie.Need-part-put-stream-start Inv-loop μ-loop
-part-put-stream-start c = search needs
+part-put-stream-start c = c .before .before .before .before .loop .inv .2 .within
 
 part-put-stream-end : tie.Need-part-put-stream-end Inv-loop μ-loop
 part-put-stream-end c = search needs
@@ -52,11 +51,10 @@ put-stream-requires c κs =
     let h = c .before .before .before .before .before in
     let s = h .before .before .before in
     let a = s .args in
-    let fit =
-    stream-fits (a .d) (s .pre .0) (s .pre .1) (a .out .now) (s .pre .2) (h .loop .out) (h .loop .at) (h .loop .k)
+    rest-fits (h .loop .out) (h .loop .at) _
+    (stream-fits (a .d) (s .pre .0) (s .pre .1) (a .out .now) (s .pre .2) (h .loop .out) (h .loop .at) (h .loop .k)
     (c .before .before .before .before .loop-test .taken) (h .loop .inv .2) _ refl (c .before .response .result)
-    (c .before .response .ensures .0) in
-    search needs
+    (c .before .response .ensures .0))
 
 add-at : tie.Need-add-at Inv-loop μ-loop
 add-at c =

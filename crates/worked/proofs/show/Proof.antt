@@ -1,3 +1,5 @@
+-- `worked::show` is safe and ends.
+-- Assumes nothing.
 use Prim.Native.Nat.{_≤_}
 use mathlib.Core.Path.{_≡_, sym, ap, _∙_}
 use mathlib.Core.Bool.{true}
@@ -11,19 +13,10 @@ use Rattle.worked.proofs.Shown.{found-few, found-fits}
 use borrow.Author.Needs.{needs}
 use Rattle.worked.proofs.show.Statement.{statement}
 use Rattle.worked.proofs.show.Tie as tie
-use Rattle.worked.proofs.show.Reads as reads
-use Rattle.worked.proofs.show.Lts as lts
-use Rattle.gate.proofs.find_runs.Reads as find-runs-reads
-use Rattle.gate.proofs.some_free.Reads as some-free-reads
-use Rattle.table.proofs.build.Reads as build-reads
-use Rattle.worked.proofs.show_runs.Reads as show-runs-reads
-use Rattle.worked.proofs.show_stairs.Reads as show-stairs-reads
 
--- src/main.rt:57:8
 some-free-requires : tie.Need-some-free-requires
 some-free-requires c κs = search needs
 
--- src/main.rt:58:13
 find-runs-requires : tie.Need-find-runs-requires
 find-runs-requires c κs = search needs
 
@@ -44,25 +37,20 @@ fits c =
           (c .find-runs .ensures),
     )
 
--- src/main.rt:59:9
 show-runs-requires : tie.Need-show-runs-requires
 show-runs-requires c κs = fits c .0
 
--- src/main.rt:61:21
 build-requires : tie.Need-build-requires
 build-requires c κs = fits (c .before .before)
 
--- src/main.rt:61:9
 show-stairs-requires : tie.Need-show-stairs-requires
 unfolding tableOf
 show-stairs-requires c κs =
     omega (arith, ap (λ (t : Table). t .n) (c .build .ensures), few-stairs (fits (c .before .before .before) .1))
 
--- src/main.rt:54:1
 returns : tie.Need-returns
 returns c = search needs
 
--- src/main.rt:54:1
 returns-2 : tie.Need-returns-2
 returns-2 c = search needs
 

@@ -1,10 +1,9 @@
+-- `worked::show_runs` is safe and ends.
+-- Assumes nothing.
 use Prim.Native.Nat.{_-_, _≤_}
 use borrow.Author.Needs.{needs}
 use Rattle.worked.proofs.show_runs.Statement.{statement}
 use Rattle.worked.proofs.show_runs.Tie as tie
-use Rattle.worked.proofs.show_runs.Reads as reads
-use Rattle.worked.proofs.show_runs.Lts as lts
-use Rattle.worked.proofs.line.Reads as line-reads
 
 abbrev Inv-loop : tie.InvT-loop
 Inv-loop n row i₀ t6 i = (n ≤ 32) × (i ≤ n)
@@ -12,39 +11,30 @@ Inv-loop n row i₀ t6 i = (n ≤ 32) × (i ≤ n)
 abbrev μ-loop : tie.MeasureT-loop
 μ-loop n row i₀ t6 i = n - i
 
--- src/main.rt:32:5
 loop-holds : tie.Need-loop-holds Inv-loop μ-loop
 loop-holds c = search needs
 
--- src/main.rt:33:17
 mul-x : tie.Need-mul-x Inv-loop μ-loop
 mul-x c = search needs
 
--- src/main.rt:33:17
 array-copy-out-x : tie.Need-array-copy-out-x Inv-loop μ-loop
 array-copy-out-x c = search needs
 
--- src/main.rt:34:14
 slice-aggregate-line : tie.Need-slice-aggregate-line Inv-loop μ-loop
 slice-aggregate-line c = search needs
 
--- src/main.rt:34:9
 line-requires : tie.Need-line-requires Inv-loop μ-loop
 line-requires c κs = search needs
 
--- src/main.rt:35:9
 add-i : tie.Need-add-i Inv-loop μ-loop
 add-i c = search needs
 
--- src/main.rt:32:5
 loop-less : tie.Need-loop-less Inv-loop μ-loop
 loop-less c = search needs
 
--- src/main.rt:32:5
 loop-again : tie.Need-loop-again Inv-loop μ-loop
 loop-again c = search needs
 
--- src/main.rt:26:1
 returns : tie.Need-returns Inv-loop μ-loop
 returns c = search needs
 

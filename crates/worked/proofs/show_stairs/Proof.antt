@@ -1,10 +1,9 @@
+-- `worked::show_stairs` is safe and ends.
+-- Assumes nothing.
 use Prim.Native.Nat.{_-_, _≤_}
 use borrow.Author.Needs.{needs}
 use Rattle.worked.proofs.show_stairs.Statement.{statement}
 use Rattle.worked.proofs.show_stairs.Tie as tie
-use Rattle.worked.proofs.show_stairs.Reads as reads
-use Rattle.worked.proofs.show_stairs.Lts as lts
-use Rattle.worked.proofs.line.Reads as line-reads
 
 abbrev Inv-loop : tie.InvT-loop
 Inv-loop n far tot i₀ t6 i = (n ≤ 993) × (i ≤ n)
@@ -12,47 +11,36 @@ Inv-loop n far tot i₀ t6 i = (n ≤ 993) × (i ≤ n)
 abbrev μ-loop : tie.MeasureT-loop
 μ-loop n far tot i₀ t6 i = n - i
 
--- src/main.rt:47:5
 loop-holds : tie.Need-loop-holds Inv-loop μ-loop
 loop-holds c = search needs
 
--- src/main.rt:48:14
 slice-aggregate-line : tie.Need-slice-aggregate-line Inv-loop μ-loop
 slice-aggregate-line c = search needs
 
--- src/main.rt:48:24
 mul-line : tie.Need-mul-line Inv-loop μ-loop
 mul-line c = search needs
 
--- src/main.rt:48:24
 array-read-line : tie.Need-array-read-line Inv-loop μ-loop
 array-read-line c = search needs
 
--- src/main.rt:48:32
 mul-line-2 : tie.Need-mul-line-2 Inv-loop μ-loop
 mul-line-2 c = search needs
 
--- src/main.rt:48:32
 array-read-line-2 : tie.Need-array-read-line-2 Inv-loop μ-loop
 array-read-line-2 c = search needs
 
--- src/main.rt:48:9
 line-requires : tie.Need-line-requires Inv-loop μ-loop
 line-requires c κs = search needs
 
--- src/main.rt:49:9
 add-i : tie.Need-add-i Inv-loop μ-loop
 add-i c = search needs
 
--- src/main.rt:47:5
 loop-less : tie.Need-loop-less Inv-loop μ-loop
 loop-less c = search needs
 
--- src/main.rt:47:5
 loop-again : tie.Need-loop-again Inv-loop μ-loop
 loop-again c = search needs
 
--- src/main.rt:40:1
 returns : tie.Need-returns Inv-loop μ-loop
 returns c = search needs
 

@@ -1,3 +1,5 @@
+-- `desk::responses::judge` meets its contract: late where the bound is over the deadline.
+-- Assumes nothing.
 use mathlib.Core.Path.{sym, ap, _∙_}
 use native.Mathlib.Omega.{arith}
 use borrow.Author.Needs.{needs}
@@ -5,14 +7,10 @@ use Rattle.desk.specs.Judged.{judgedBy}
 use Rattle.desk.proofs.Responding.{judged-late, judged-met, judged-endless}
 use Rattle.desk.proofs.responses.judge.Statement.{statement}
 use Rattle.desk.proofs.responses.judge.Tie as tie
-use Rattle.desk.proofs.responses.judge.Reads as reads
-use Rattle.desk.proofs.responses.judge.Lts as lts
 
--- src/responses.rt:18:26
 enum-known-answer : tie.Need-enum-known-answer
 enum-known-answer c = search needs
 
--- src/responses.rt:20:17
 returns : tie.Need-returns
 returns c =
     let a = c .before .before in
@@ -20,15 +18,12 @@ returns c =
     judged-late (b .deadline) (a .answer .given .0 .0) (omega arith)
     ∙ ap (judgedBy (b .deadline)) (sym (a .answer .given .1))
 
--- src/responses.rt:22:24
 cast-t7 : tie.Need-cast-t7
 cast-t7 c = search needs
 
--- src/responses.rt:24:46
 enum-told : tie.Need-enum-told
 enum-told c = search needs
 
--- src/responses.rt:14:1
 returns-2 : tie.Need-returns-2
 returns-2 c =
     let a = c .before .before in
@@ -36,7 +31,6 @@ returns-2 c =
     judged-met (b .deadline) (a .answer .given .0 .0) (omega arith)
     ∙ ap (judgedBy (b .deadline)) (sym (a .answer .given .1))
 
--- src/responses.rt:14:1
 returns-3 : tie.Need-returns-3
 returns-3 c =
     let b = c .before .before .args in

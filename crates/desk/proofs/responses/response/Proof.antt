@@ -1,3 +1,5 @@
+-- `desk::responses::response` meets its contract: each answer is the meaning's, by the tests that led to it.
+-- Assumes nothing.
 use mathlib.Core.Path.{_≡_, sym, ap, _∙_}
 use Prim.Native.Nat.{_<_}
 use native.Mathlib.Omega.{arith}
@@ -9,17 +11,11 @@ use Rattle.rows.specs.Rows.{noStream}
 use Rattle.desk.specs.declared.Desk.{Desk}
 use Rattle.desk.specs.declared.Figure.{Figure}
 use Rattle.desk.specs.Desks.{streamsIn}
-use Rattle.desk.proofs.Opened.{Open, open-desk, fit-but-stairs}
+use Rattle.desk.proofs.OpenFits.{OpenFits, open-fits}
 use Rattle.desk.proofs.Responding.{response-closed, response-not-held, response-open, asks}
 use Rattle.desk.proofs.responses.response.Statement.{statement}
 use Rattle.desk.proofs.responses.response.Tie as tie
-use Rattle.desk.proofs.responses.response.Reads as reads
-use Rattle.desk.proofs.responses.response.Lts as lts
-use Rattle.bound.proofs.response_bound.Reads as response-bound-reads
-use Rattle.desk.proofs.responses.judge.Reads as judge-reads
-use Rattle.rows.proofs.stream_place.Reads as stream-place-reads
 
--- src/responses.rt:34:9
 returns : tie.Need-returns
 returns c =
     let b = c .before in (response-closed (b .args .t1) (b .pre) (b .args .id) (not-true _ (c .if1 .taken)), b .pre)
@@ -27,14 +23,12 @@ returns c =
 abbrev deskAt : tie.Start → Desk
 deskAt c = c .args .t1
 
-open-at : (c : tie.Else1) → Open (deskAt (c .before))
-open-at c = open-desk _ (fit-but-stairs _ (c .before .pre)) (not-false _ (c .if1 .left))
+open-at : (c : tie.Else1) → OpenFits (deskAt (c .before))
+open-at c = open-fits _ (c .before .pre) (not-false _ (c .if1 .left))
 
--- src/responses.rt:41:9
 stream-place-requires : tie.Need-stream-place-requires
-stream-place-requires c κs = open-at (c .before) .streams-few
+stream-place-requires c κs = open-at (c .before) .few-streams
 
--- src/responses.rt:43:9
 returns-2 : tie.Need-returns-2
 returns-2 c =
     let t = c .before in
@@ -46,13 +40,11 @@ returns-2 c =
       b .pre,
     )
 
--- src/responses.rt:48:15
 mul-own : tie.Need-mul-own
-mul-own c = omega (arith, c .if2 .left, open-at (c .before .before .before) .streams-few)
+mul-own c = omega (arith, c .if2 .left, open-at (c .before .before .before) .few-streams)
 
--- src/responses.rt:48:15
 array-copy-out-own : tie.Need-array-copy-out-own
-array-copy-out-own c = omega (arith, c .if2 .left, open-at (c .before .before .before) .streams-few)
+array-copy-out-own c = omega (arith, c .if2 .left, open-at (c .before .before .before) .few-streams)
 
 -- the stream found is one of those held
 found : (c : tie.Else2)
@@ -66,7 +58,6 @@ found c =
           (omega (arith, c .if2 .left))),
     )
 
--- src/responses.rt:49:9
 response-bound-requires : tie.Need-response-bound-requires
 response-bound-requires c κs =
     let e = c .before .before .before .before in
@@ -77,11 +68,9 @@ response-bound-requires c κs =
     asks (b .args .t1) (b .pre) (b .args .id) (not-false _ (o .if1 .left)) (t .stream-place .result)
     (t .stream-place .ensures .0) inside _ same
 
--- src/responses.rt:51:17
 judge-requires : tie.Need-judge-requires
 judge-requires c κs = search needs
 
--- src/responses.rt:29:1
 returns-3 : tie.Need-returns-3
 returns-3 c =
     let e = c .before .before .before .before .before .before in

@@ -1,60 +1,36 @@
--- `desk::slots::add_slot` meets its contract: what was held gets its stairs, and what was refused stays refused.
+-- `desk::slots::add_slot` meets its contract: the stairs are built behind the slot added.
 -- Assumes nothing.
-use mathlib.Core.Path.{ap, _∙_}
 use borrow.Author.Needs.{needs}
-use Rattle.desk.specs.Desks.{held, slotOf}
-use Rattle.desk.specs.Edits.{accepting}
-use Rattle.desk.proofs.Opened.{fit-but-stairs}
-use Rattle.desk.proofs.Answers.{may-get-stairs, accepted-edits, refused-edits}
-use Rattle.desk.proofs.SlotLaws.{added-open}
+use Rattle.meaning.specs.Refusals.{Answer}
+use Rattle.meaning.specs.Desks.{Desk as Plan}
+use Rattle.meaning.specs.Calls.{addSlot}
+use Rattle.entries.specs.Entries.{slotOf}
+use Rattle.desk.proofs.Answers.{may-edit, may-get-stairs, built-edit}
+use Rattle.desk.proofs.StairLaws.{added-open}
 use Rattle.desk.proofs.slots.add_slot.Statement.{statement}
 use Rattle.desk.proofs.slots.add_slot.Tie as tie
 
+abbrev call : tie.Start → Plan → Answer Plan
+call b = addSlot (slotOf (b .args .start) (b .args .end))
+
+entries-of-requires : tie.Need-entries-of-requires
+entries-of-requires c κs = search needs
+
 hold-slot-requires : tie.Need-hold-slot-requires
-hold-slot-requires c κs = fit-but-stairs (c .args .d) (c .pre)
+hold-slot-requires c κs = may-edit (c .before .args .d) (c .before .pre) _ (c .entries-of .ensures)
 
-enum-told : tie.Need-enum-told
-enum-told c = search needs
-
-with-stairs-requires : tie.Need-with-stairs-requires
-with-stairs-requires c κs =
-    let m = c .before .before .before in
-    let a = m .before .args in
-    may-get-stairs (a .d) _ _ (m .hold-slot .ensures)
-    (added-open (slotOf (a .start) (a .end)) (held (a .d))) (c .enum-told .given .1)
-
-accept-requires : tie.Need-accept-requires
-accept-requires c κs = search needs
-
-enum-known-verdict : tie.Need-enum-known-verdict
-enum-known-verdict c = search needs
-
-refuse-requires : tie.Need-refuse-requires
-refuse-requires c κs = search needs
+build-stairs-requires : tie.Need-build-stairs-requires
+build-stairs-requires c κs =
+    let b = c .before .before in
+    may-get-stairs (b .args .d) (b .pre) _ (c .before .entries-of .ensures) (call b) _ (c .hold-slot .ensures)
+    (added-open (slotOf (b .args .start) (b .args .end)))
 
 returns : tie.Need-returns
 returns c =
-    let t = c .before .before in
-    let m = t .before .before .before in
-    accepted-edits (m .before .args .d) _ _ (m .hold-slot .ensures) _ (t .enum-told .given .1)
-    (c .accept .ensures ∙ ap accepting (c .before .with-stairs .ensures .0))
-
-returns-2 : tie.Need-returns-2
-returns-2 c =
-    let v = c .before .before in
-    let m = v .before .before .before in
-    refused-edits (m .before .args .d) _ _ (m .hold-slot .ensures) _ _ (m .before .pre) (v .verdict .given .1)
-    (c .refuse .ensures)
+    let m = c .before in
+    let b = m .before .before in
+    built-edit (b .args .d) (b .pre) _ (m .before .entries-of .ensures) (call b) _ (m .hold-slot .ensures) _
+    (c .build-stairs .ensures)
 
 pub add-slot-spec : {M : Type 1} → statement M
-add-slot-spec =
-    tie.close
-    (tie.spec
-    hold-slot-requires
-    enum-told
-    with-stairs-requires
-    accept-requires
-    enum-known-verdict
-    refuse-requires
-    returns
-    returns-2)
+add-slot-spec = tie.close (tie.spec entries-of-requires hold-slot-requires build-stairs-requires returns)

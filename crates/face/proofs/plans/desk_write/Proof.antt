@@ -1,8 +1,7 @@
 -- `face::plans::desk_write` meets its contract.
 -- Assumes nothing.
-use mathlib.Core.Path.{ap, _∙_}
 use borrow.Author.Needs.{needs}
-use Rattle.face.specs.Told.{numberedWrite}
+use Rattle.face.proofs.Given.{write-told}
 use Rattle.face.proofs.plans.desk_write.Statement.{statement}
 use Rattle.face.proofs.plans.desk_write.Tie as tie
 
@@ -18,8 +17,8 @@ same-length c = search needs
 returns : tie.Need-returns
 returns c =
     let (same, room, fit) = c .before .before .before .write .ensures in
-    let told = c .told-write .ensures in
-    (told ∙ ap numberedWrite same, room, rw told fit)
+    let (told, kept) = write-told _ (c .before .before .before .before .before .before .pre) _ _ _ same (c .told-write .ensures) in
+    (told, room, kept)
 
 pub desk-write-spec : {M : Type 1} → statement M
 desk-write-spec = tie.close (tie.spec write-requires told-write-requires same-length returns)

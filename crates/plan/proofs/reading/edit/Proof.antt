@@ -8,10 +8,10 @@ use Rattle.meaning.specs.Refusals.{Answer}
 use Rattle.meaning.specs.Desks.{Desk as Plan}
 use Rattle.meaning.specs.Calls.{openPort, addSlot, addStream}
 use Rattle.meaning.specs.Bytes.{edit}
-use Rattle.desk.specs.declared.Desk.{Desk}
-use Rattle.desk.specs.declared.EditReply.{EditReply}
-use Rattle.desk.specs.Desks.{held, slotOf}
-use Rattle.desk.proofs.Answers.{Holds, refusal-holds}
+use Rattle.entries.specs.declared.Entries.{Entries}
+use Rattle.entries.specs.declared.EntriesReply.{EntriesReply}
+use Rattle.entries.specs.Entries.{heldIn}
+use Rattle.entries.proofs.Answers.{Edits, refusal-edits}
 use Rattle.fields.specs.declared.FieldAt.{FieldAt}
 use Rattle.fields.specs.Reading.{told}
 use Rattle.plan.specs.Reading.{editTold}
@@ -19,10 +19,10 @@ use Rattle.plan.proofs.reading.edit.Statement.{statement}
 use Rattle.plan.proofs.reading.edit.Tie as tie
 
 -- the answer a is that of the field's edit
-edit-is : (d : Desk) (f g : FieldAt) (a : Answer Plan) (r : EditReply) → f ≡ g → a ≡ editTold (told g) (held d)
-    → Holds d a r → Holds d (editTold (told f) (held d)) r
-edit-is d f g a r e q h =
-    subst (λ (x : Answer Plan). Holds d x r) (q ∙ sym (ap (λ (x : FieldAt). editTold (told x) (held d)) e)) h
+edit-is : (es : Entries) (f g : FieldAt) (a : Answer Plan) (r : EntriesReply) → f ≡ g
+    → a ≡ editTold (told g) (heldIn es) → Edits es a r → Edits es (editTold (told f) (heldIn es)) r
+edit-is es f g a r e q h =
+    subst (λ (x : Answer Plan). Edits es x r) (q ∙ sym (ap (λ (x : FieldAt). editTold (told x) (heldIn es)) e)) h
 
 enum-known-f : tie.Need-enum-known-f
 enum-known-f c = search needs
@@ -63,15 +63,15 @@ returns c =
     let n = c .before in
     let g = n .before .before in
     let b = g .before .before in
-    edit-is (b .args .d) _ _ _ _ (g .f .given .1)
-    (ap (λ (p : Port). openPort p (held (b .args .d))) (n .port-numbers .ensures)) (c .hold-port .ensures)
+    edit-is (b .args .e) _ _ _ _ (g .f .given .1)
+    (ap (λ (p : Port). openPort p (heldIn (b .args .e))) (n .port-numbers .ensures)) (c .hold-port .ensures)
 
 returns-2 : tie.Need-returns-2
 unfolding edit
 returns-2 c =
     let g = c .before .before .before .before in
     let b = g .before .before in
-    edit-is (b .args .d) _ _ _ _ (g .f2 .given .1) refl (c .hold-slot .ensures)
+    edit-is (b .args .e) _ _ _ _ (g .f2 .given .1) refl (c .hold-slot .ensures)
 
 returns-3 : tie.Need-returns-3
 unfolding edit
@@ -79,15 +79,15 @@ returns-3 c =
     let n = c .before in
     let g = n .before .before in
     let b = g .before .before in
-    edit-is (b .args .d) _ _ _ _ (g .f3 .given .1)
-    (ap (λ (j : Stream). addStream j (held (b .args .d))) (n .stream-numbers .ensures)) (c .hold-stream .ensures)
+    edit-is (b .args .e) _ _ _ _ (g .f3 .given .1)
+    (ap (λ (j : Stream). addStream j (heldIn (b .args .e))) (n .stream-numbers .ensures)) (c .hold-stream .ensures)
 
 returns-4 : tie.Need-returns-4
 returns-4 c =
     let g = c .before in
     let b = g .before .before in
-    refusal-holds (b .args .d) _ _ _ (b .pre) refl
-    (ap (λ (f : FieldAt). editTold (told f) (held (b .args .d))) (g .f4 .given .1))
+    refusal-edits (b .args .e) _ _ _ (b .pre) refl
+    (ap (λ (f : FieldAt). editTold (told f) (heldIn (b .args .e))) (g .f4 .given .1))
 
 pub edit-spec : {M : Type 1} → statement M
 edit-spec =

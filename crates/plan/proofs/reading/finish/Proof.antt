@@ -1,19 +1,17 @@
--- `plan::reading::finish` meets its contract: a desk that is open is read, with the stairs of its slots.
+-- `plan::reading::finish` meets its contract: where a port is open the plan is read, with the stairs of its slots.
 -- Assumes nothing.
 use mathlib.Core.Path.{sym, ap, _∙_}
 use mathlib.Core.List.{[]}
 use borrow.Author.Needs.{needs}
 use borrow.Author.Tests.{not-true, not-false}
-use Rattle.meaning.specs.declared.Refusal.the-variants.{OutOfTurn}
 use Rattle.meaning.specs.Desks.{Desk as Plan}
 use Rattle.meaning.specs.Bytes.{going, ended, deskRead}
+use Rattle.entries.proofs.Opened.{held-bare, open-entries}
 use Rattle.desk.specs.declared.Desk.{Desk}
 use Rattle.desk.specs.Desks.{deskOf}
-use Rattle.desk.proofs.Held.{fit-bare}
-use Rattle.desk.proofs.Opened.{held-bare, open-desk}
 use Rattle.plan.specs.declared.ReadReply.{ReadReply}
 use Rattle.plan.specs.declared.ReadAnswer.the-variants.{Read}
-use Rattle.plan.specs.Reading.{refusing, readReply}
+use Rattle.plan.specs.Reading.{readReply}
 use Rattle.plan.proofs.reading.finish.Statement.{statement}
 use Rattle.plan.proofs.reading.finish.Tie as tie
 
@@ -21,20 +19,15 @@ refused-at-requires : tie.Need-refused-at-requires
 refused-at-requires c κs = search needs
 
 returns : tie.Need-returns
-unfolding ended deskRead
+unfolding ended
 returns c =
-    let b = c .before .before .before in
-    let a = b .args in
-    let shut = held-bare (a .d) (not-true _ (c .before .if1 .taken)) in
-    let reply = c .refused-at .ensures in (
-      reply
-          ∙ ap (refusing OutOfTurn 0) (b .pre .1)
-          ∙ sym (ap (λ (e : Plan). readReply (ended (going (a .at) [] e))) shut),
-      rw (reply, b .pre .1) fit-bare,
-    )
+    let a = c .before .before .before .args in
+    let shut = held-bare (a .e) (not-true _ (c .before .if1 .taken)) in
+    let (same, fit) = c .refused-at .ensures in
+    (same ∙ sym (ap (λ (x : Plan). readReply (ended (going (a .at) [] x))) shut), fit)
 
 with-stairs-requires : tie.Need-with-stairs-requires
-with-stairs-requires c κs = (c .before .before .pre .0, not-false _ (c .if1 .left))
+with-stairs-requires c κs = (c .before .before .pre, not-false _ (c .if1 .left))
 
 returns-2 : tie.Need-returns-2
 unfolding ended deskRead
@@ -42,9 +35,9 @@ returns-2 c =
     let b = c .before .before .before in
     let a = b .args in
     let (same, fit) = c .with-stairs .ensures in
-    let h = open-desk (a .d) (b .pre .0) (not-false _ (c .before .if1 .left)) .holds in
+    let h = open-entries (a .e) (b .pre) (not-false _ (c .before .if1 .left)) .holds in
     let with-it : Desk → ReadReply = λ x. record { answer = Read; desk = x } in (
-      ap with-it (same ∙ ap deskOf h) ∙ sym (ap (λ (e : Plan). readReply (ended (going (a .at) [] e))) h),
+      ap with-it (same ∙ ap deskOf h) ∙ sym (ap (λ (x : Plan). readReply (ended (going (a .at) [] x))) h),
       fit,
     )
 

@@ -1,34 +1,32 @@
 -- `plan::reading::read` meets its contract: turn by turn, what is left from a place decides what the plan gives.
 -- Assumes nothing.
-use mathlib.Core.Path.{_≡_, sym, ap, ap₂, _∙_}
-use Prim.Native.Nat.{_-_, _≤_, _<_, zero-le}
+use mathlib.Core.Path.{_≡_, sym, ap, _∙_}
+use Prim.Native.Nat.{ℕ, _-_, _≤_, _<_, zero-le}
 use native.Mathlib.Omega.{arith}
 use lib.ListN.{length, drop}
 use borrow.Author.Needs.{needs}
-use Rattle.meaning.specs.Bytes.{going, step, deskRead}
-use Rattle.desk.specs.Desks.{held}
-use Rattle.desk.specs.Edits.{FitButStairs}
-use Rattle.desk.proofs.Opened.{fit-but-stairs}
-use Rattle.desk.proofs.Held.{held-of}
-use Rattle.plan.specs.Reading.{refusing, readReply}
+use Rattle.meaning.specs.Bytes.{going, step, refusedAt}
+use Rattle.entries.specs.Entries.{heldIn, FitEntries}
+use Rattle.entries.proofs.Opened.{held-of-entries}
+use Rattle.plan.specs.Reading.{readReply}
 use Rattle.plan.proofs.Walks.{ReadsOn, read-start, read-turn, read-stops, read-ends, went-on, went-no-further}
 use Rattle.plan.proofs.reading.read.Statement.{statement}
 use Rattle.plan.proofs.reading.read.Tie as tie
 
 abbrev Inv-loop : tie.InvT-loop
-Inv-loop plan none d₀ at₀ d at = FitButStairs d × (at ≤ length plan) × ReadsOn plan at (held d)
+Inv-loop plan e₀ at₀ e at = FitEntries e × (at ≤ length plan) × ReadsOn plan at (heldIn e)
 
 abbrev μ-loop : tie.MeasureT-loop
-μ-loop plan none d₀ at₀ d at = length plan - at
+μ-loop plan e₀ at₀ e at = length plan - at
 
-bare-requires : tie.Need-bare-requires Inv-loop μ-loop
-bare-requires c κs = search needs
+none-requires : tie.Need-none-requires Inv-loop μ-loop
+none-requires c κs = search needs
 
 loop-holds : tie.Need-loop-holds Inv-loop μ-loop
 loop-holds c =
-    let (same, fit) = c .bare .ensures in
+    let (same, fit) = c .none .ensures in
     let plan = c .before .before .args .plan .now in
-    (fit-but-stairs _ fit, zero-le, rw (ap held same ∙ held-of _) (read-start plan))
+    (fit, zero-le, rw (ap heldIn same ∙ held-of-entries _) (read-start plan))
 
 walk-on-requires : tie.Need-walk-on-requires Inv-loop μ-loop
 walk-on-requires c κs = (c .loop-test .taken, c .before .loop .inv .0)
@@ -40,21 +38,19 @@ refused-at-requires : tie.Need-refused-at-requires Inv-loop μ-loop
 refused-at-requires c κs = search needs
 
 returns : tie.Need-returns Inv-loop μ-loop
-unfolding deskRead
 returns c =
     let v = c .before .before in
     let w = v .before .before in
     let h = w .before .before in
     let plan = h .before .before .before .args .plan .now in
     let (place, stops) =
-    went-no-further plan (h .loop .at) (h .loop .d) _ (w .before .loop-test .taken) (w .walk-on .ensures .0) _
+    went-no-further plan (h .loop .at) (h .loop .e) _ (w .before .loop-test .taken) (w .walk-on .ensures .0) _
     (v .verdict .given .1) in
-    let (same, fit) = h .before .bare .ensures in
-    let reply = c .refused-at .ensures in (
-      reply
-          ∙ ap₂ (refusing _) place same
+    let (same, fit) = c .refused-at .ensures in (
+      same
+          ∙ ap (λ (n : ℕ). readReply (refusedAt (v .verdict .given .0 .0) n)) place
           ∙ sym (ap readReply (read-stops plan (h .loop .at) _ (h .loop .inv .2) _ stops)),
-      rw reply fit,
+      fit,
     )
 
 enum-told : tie.Need-enum-told Inv-loop μ-loop
@@ -66,12 +62,12 @@ goes : (c : tie.After-enum-told Inv-loop μ-loop) → let w = c .before .before 
     let plan = h .before .before .before .args .plan .now in
     let x = w .walk-on .result in
     (h .loop .at < x .at)
-    × (step (going (h .loop .at) (drop (h .loop .at) plan) (held (h .loop .d)))
-    ≡ going (x .at) (drop (x .at) plan) (held (x .desk)))
+    × (step (going (h .loop .at) (drop (h .loop .at) plan) (heldIn (h .loop .e)))
+    ≡ going (x .at) (drop (x .at) plan) (heldIn (x .entries)))
 goes c =
     let w = c .before .before in
     let h = w .before .before in
-    went-on (h .before .before .before .args .plan .now) (h .loop .at) (h .loop .d) _ (w .before .loop-test .taken)
+    went-on (h .before .before .before .args .plan .now) (h .loop .at) (h .loop .e) _ (w .before .loop-test .taken)
     (w .walk-on .ensures .0) (c .enum-told .given .1)
 
 loop-less : tie.Need-loop-less Inv-loop μ-loop
@@ -89,7 +85,7 @@ loop-again c =
     (fit, within, read-turn plan (h .loop .at) _ (h .loop .inv .2) _ _ (goes (c .before) .1))
 
 finish-requires : tie.Need-finish-requires Inv-loop μ-loop
-finish-requires c κs = (c .before .loop .inv .0, c .before .before .bare .ensures .0)
+finish-requires c κs = c .before .loop .inv .0
 
 returns-2 : tie.Need-returns-2 Inv-loop μ-loop
 returns-2 c =
@@ -105,7 +101,7 @@ read-spec =
     (tie.spec
     Inv-loop
     μ-loop
-    bare-requires
+    none-requires
     loop-holds
     walk-on-requires
     enum-known-verdict

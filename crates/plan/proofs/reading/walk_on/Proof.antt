@@ -5,7 +5,7 @@ use Prim.Native.Nat.{ℕ, _+_, _≤_}
 use native.Mathlib.Omega.{arith}
 use lib.ListN.{length}
 use borrow.Author.Needs.{needs}
-use Rattle.desk.specs.declared.Verdict.the-variants.{Accepted}
+use Rattle.entries.specs.declared.Verdict.the-variants.{Accepted}
 use Rattle.plan.proofs.Walks.{walkedBy, octets-within, walked-accepted, walked-refused}
 use Rattle.plan.proofs.reading.walk_on.Statement.{statement}
 use Rattle.plan.proofs.reading.walk_on.Tie as tie
@@ -44,8 +44,8 @@ returns c =
     let s = o .before in
     let b = s .before .before in
     let a = b .args in (
-      ap (λ (n : ℕ). walkedBy Accepted (a .at + n) (t .edit .result .desk)) (o .octets-at .ensures)
-          ∙ walked-accepted (a .plan .now) (a .at) _ (s .step .ensures) (b .pre .0) (a .d) _ (t .edit .ensures .0)
+      ap (λ (n : ℕ). walkedBy Accepted (a .at + n) (t .edit .result .entries)) (o .octets-at .ensures)
+          ∙ walked-accepted (a .plan .now) (a .at) _ (s .step .ensures) (b .pre .0) (a .e) _ (t .edit .ensures .0)
           (c .enum-told .given .1),
       behind o,
       t .edit .ensures .1,
@@ -58,7 +58,7 @@ returns-2 c =
     let s = t .before .before in
     let b = s .before .before in
     let a = b .args in (
-      walked-refused (a .plan .now) (a .at) _ (s .step .ensures) (b .pre .0) (a .d) _ (t .edit .ensures .0) _
+      walked-refused (a .plan .now) (a .at) _ (s .step .ensures) (b .pre .0) (a .e) _ (t .edit .ensures .0) _
           (v .verdict .given .1),
       omega (arith, b .pre .0),
       t .edit .ensures .1,

@@ -107,7 +107,7 @@ returns-3 c =
     let room = s .args .out .now in
     let whole : lengthIn d ≤ length room = omega (arith, t .if2 .left) in
     let filled =
-    room-filled d (open-of d (s .pre) isOpen) room _ _ _ (first .put-port .ensures) (second .put-slots .ensures .1)
+    room-filled d (s .pre) isOpen room _ _ _ (first .put-port .ensures) (second .put-slots .ensures .1)
     (third .put-streams .ensures .1) in
     write-open d (s .pre) room isOpen whole _ filled
 

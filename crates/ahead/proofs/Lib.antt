@@ -1,0 +1,2 @@
+pub mod Rated
+pub mod Unpacking

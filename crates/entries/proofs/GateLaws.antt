@@ -1,0 +1,30 @@
+-- The gate numbers in force are in range, and the slots held are a chain in their cycle.
+-- Assumes nothing.
+use mathlib.Core.Path.{_≡_}
+use mathlib.Core.Bool.{true}
+use mathlib.Core.List.{List}
+use native.Mathlib.Omega.{arith}
+use Rattle.meaning.specs.declared.Port.{Port}
+use Rattle.meaning.specs.declared.Slot.{Slot}
+use Rattle.meaning.specs.declared.Stream.{Stream}
+use Rattle.meaning.specs.Ranges.{portRanges, inRange}
+use Rattle.meaning.specs.Runs.{gateOf}
+use Rattle.meaning.specs.Promises.{Chain}
+use Rattle.meaning.proofs.InRange.{port-in}
+use Rattle.gate.specs.Rows.{GateFits}
+
+module _ (p : Port) (js : List Stream) where
+  pub gate-fits : inRange (portRanges p) ≡ true → GateFits (gateOf p js)
+  unfolding gateOf
+  gate-fits r =
+      let b = port-in p .0 r in
+      record {
+        cycle-least = omega arith;
+        cycle-most = omega arith;
+        guard-most = omega arith;
+        header-most = omega arith;
+      }
+
+  pub gate-chain : (ss : List Slot) → Chain 0 ss (p .cycle) → Chain 0 ss (gateOf p js .cycle)
+  unfolding gateOf
+  gate-chain ss c = c

@@ -1,0 +1,8 @@
+pub mod Opened
+pub mod Answers
+pub mod Places
+pub mod GateLaws
+pub mod RangeLaws
+pub mod PortLaws
+pub mod SlotLaws
+pub mod StreamLaws

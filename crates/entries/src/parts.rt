@@ -1,0 +1,39 @@
+// The parts of an edit: its answer, and the gate numbers in force.
+ghost use mathlib.Core.Path.{_≡_};
+ghost use Rattle.entries.specs.Entries.{gateIn, accepting, refusing};
+use crate::Entries;
+use crate::EntriesReply;
+use crate::Verdict;
+use meaning::Gate;
+use meaning::Refusal;
+
+// An accepted edit, and the entries that it made.
+pub fn accept(e: Entries) -> EntriesReply
+    ensures { λ r. ⌜ r ≡ accepting e ⌝ }
+{
+    EntriesReply {
+        verdict: Verdict::Accepted,
+        entries: e,
+    }
+}
+
+// A refused edit, and the unchanged entries.
+pub fn refuse(e: Entries, why: Refusal) -> EntriesReply
+    ensures { λ r. ⌜ r ≡ refusing e why ⌝ }
+{
+    EntriesReply {
+        verdict: Verdict::Refused(why),
+        entries: e,
+    }
+}
+
+// The gate numbers in force.
+pub fn gate_of(e: Entries) -> Gate
+    ensures { λ r. ⌜ r ≡ gateIn e ⌝ }
+{
+    Gate {
+        cycle: e.cycle,
+        guard: e.guard,
+        header: e.header,
+    }
+}

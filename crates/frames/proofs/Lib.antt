@@ -1,0 +1,2 @@
+pub mod RowStreams
+pub mod Framing
