@@ -51,7 +51,7 @@ theOne (x ∷ xs) = x
 abbrev pub numbered : EditReply → Edited
 numbered r = record { number = verdictNumber (r .verdict); desk = r .desk }
 
--- "A refused call changes nothing": the desk handed back is d
+-- "A refused call hands back the desk it was given" (the order, demand 1), which is d
 abbrev pub RefusedKeeps : Desk → EditReply → Type 0
 RefusedKeeps d r = (why : Refusal) → r .verdict ≡ Refused why → r .desk ≡ d
 
