@@ -12,7 +12,7 @@ use borrow.Author.Tests.{eqb-true, lt-ltb, le-ltb}
 use Rattle.laws.specs.Lists.{any, find, placeBy, without, Mem}
 use Rattle.laws.specs.Numbers.{Mono}
 use Rattle.laws.proofs.Inserting.{find-none}
-use Rattle.laws.proofs.Without.{mem-get, place-held, place-found, place-passes}
+use Rattle.laws.proofs.Without.{mem-get, place-found, place-passes}
 use Rattle.meaning.specs.declared.Stream.{Stream}
 use Rattle.meaning.specs.declared.Refusal.the-variants.{OutOfTurn, NotHeld, Endless, Late}
 use Rattle.meaning.specs.Ranges.{octetLimit}
@@ -32,6 +32,7 @@ use Rattle.bound.specs.Answers.{responseOf, StreamFits, Asks}
 use Rattle.search.specs.Searches.{tableV}
 use Rattle.bound.proofs.Others.{others-without}
 use Rattle.rows.specs.Rows.{noStream}
+use Rattle.entries.proofs.Places.{some-held, none-held}
 use Rattle.desk.specs.declared.Desk.{Desk}
 use Rattle.desk.specs.declared.Figure.{Figure}
 use Rattle.desk.specs.declared.Figure.the-variants as Figures
@@ -92,12 +93,9 @@ module _ (d : Desk) (f : Fit d) (id : ℕ) where
     response-not-held l =
         figure-of (refused NotHeld) (asked-open ∙ ap (respond (portIn d) (slotsIn d) (streamsIn d)) none-found) _ refl
       where
-        unheld : (b : Bool) → any (hasId id) (streamsIn d) ≡ b → b ≡ false
-        unheld true e = absurd (let k = place-held (hasId id) (streamsIn d) .1 e in omega arith)
-        unheld false e = refl
-
         none-found : find (hasId id) (streamsIn d) ≡ none
-        none-found = find-none (hasId id) (streamsIn d) .1 (unheld (any (hasId id) (streamsIn d)) refl)
+        none-found =
+            find-none (hasId id) (streamsIn d) .1 (none-held (λ (j : Stream). j .id) id (streamsIn d) _ refl l)
 
     -- V by the stored stairs is V of the slots held
     same-v : tableV (d .cycle) (d .far) (d .tot) (d .nstairs) ≡ interference (gateIn d) (slotsIn d)
@@ -120,7 +118,7 @@ module _ (d : Desk) (f : Fit d) (id : ℕ) where
     module _ (p : ℕ) (at : p ≡ placeBy (hasId id) (streamsIn d)) (inside : p < length (streamsIn d))
         (own : Stream) (is-own : own ≡ getD (streamsIn d) p noStream) where
       is-held : any (hasId id) (streamsIn d) ≡ true
-      is-held = place-held (hasId id) (streamsIn d) .0 (omega (arith, at))
+      is-held = some-held (λ (j : Stream). j .id) id (streamsIn d) p at inside
 
       found : find (hasId id) (streamsIn d) ≡ some own
       found =

@@ -127,6 +127,11 @@ no-slots-no-interference g t = quick-is g [] [] (sym (chain-runs g [] (omega ari
 
 -- ---- P8, at an interference of 0
 
+-- a port's gate numbers are its own, whatever streams are held
+gate₈ : (g : Gate) (js : List Stream) → gateOf (port₈ g) js ≡ g
+unfolding gateOf
+gate₈ g js = refl
+
 module _ (id priority deadline : ℕ) where
   abbrev s₈ : Stream
   s₈ = stream₈ id priority deadline
@@ -184,14 +189,10 @@ module _ (id priority deadline : ℕ) where
       × (response 2 (interference g []) 0 [] s₈ 40_000 4 ≡ some 10_000)
   responses-alone g = rw (silent g) responses₈
 
-  gate-alone : (g : Gate) (js : List Stream) → gateOf (port₈ g) js ≡ g
-  unfolding gateOf
-  gate-alone g js = refl
-
   bound-alone : (g : Gate) → boundOf (port₈ g) [] (s₈ ∷ []) s₈ ≡ some 20_000
   unfolding boundOf others keep lowerWire largest
   bound-alone g =
-      rw (eq-eqb id id refl, gate-alone g (s₈ ∷ []))
+      rw (eq-eqb id id refl, gate₈ g (s₈ ∷ []))
       (rw (silent g) bound₈)
 
 -- ---- the horizon's edge, at an interference of 0
@@ -234,10 +235,8 @@ module _ (rate : ℕ) (v : ℕ → ℕ) (L : ℕ) (rest : List Stream) (i : Stre
       ∙ rw (one, response-some rate v L rest i rest-pos b 1 w lb (lit≤ tt) (omega arith) lw)
       (ap {B = Option ℕ} some (omega arith))
 
--- F's gate numbers, whatever streams are held
 pub gate-F : (js : List Stream) → gateOf portF js ≡ gateF
-unfolding gateOf
-gate-F js = refl
+gate-F = gate₈ gateF
 
 abbrev quickF : ℕ → ℕ
 quickF = quick 100_000 runsF

@@ -59,6 +59,7 @@ module _ (rate : ℕ) (v : ℕ → ℕ) (L : ℕ) (rest : List Stream) (i : Stre
   abbrev Endless : Type 0
   Endless = (x : ℕ) → x ≤ horizon → ¬ (busy x ≤ x)
 
+  -- the one place that opens the window: below here nothing unfolds a search as far as the horizon
   window-is : window rate v L rest i ≡ leastUpTo busy horizon
   unfolding window
   window-is = refl
