@@ -5,12 +5,12 @@ ghost use Rattle.desk.specs.Desks.{Fit};
 
 mod script;
 
+use answers::Figure;
+use answers::Verdict;
 use desk::Desk;
 use desk::EditReply;
-use desk::Figure;
 use entries::PortNumbers;
 use entries::StreamNumbers;
-use entries::Verdict;
 use gate::RunRow;
 use libc::STDOUT_FILENO;
 use meaning::Refusal;
@@ -46,7 +46,7 @@ fn carried(r: Refusal) -> u64 {
 fn verdict_number(v: Verdict) -> u64 {
     match v {
         Verdict::Accepted => 0,
-        Verdict::Refused(r) => desk::number(r),
+        Verdict::Refused(r) => answers::number(r),
     }
 }
 
@@ -69,7 +69,7 @@ fn put_figure(f: Figure) {
             put(x, true);
         }
         Figure::Refused(r) => {
-            put(desk::number(r), false);
+            put(answers::number(r), false);
             put(carried(r), true);
         }
     }
@@ -111,14 +111,14 @@ fn ask_rows(d: Desk, kind: u64) -> Desk
     ensures { λ r. ⌜ Fit r ⌝ }
 {
     if kind == 6 {
-        let a = desk::runs(d);
+        let a = questions::runs(d);
         let v = a.verdict;
         put(verdict_number(v), false);
         let rows = a.runs;
         put_runs(rows);
         return a.desk;
     }
-    let b = desk::stairs(d);
+    let b = questions::stairs(d);
     let w = b.verdict;
     put(verdict_number(w), false);
     let rows = b.stairs;
@@ -132,12 +132,12 @@ fn ask_figure(d: Desk, kind: u64, x: u64) -> Desk
     ensures { λ r. ⌜ Fit r ⌝ }
 {
     if kind == 8 {
-        let a = desk::interference(d, x);
+        let a = questions::interference(d, x);
         let f = a.figure;
         put_figure(f);
         return a.desk;
     }
-    let b = desk::response(d, x);
+    let b = questions::response(d, x);
     let f = b.figure;
     put_figure(f);
     b.desk

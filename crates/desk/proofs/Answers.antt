@@ -7,7 +7,7 @@ use Rattle.meaning.specs.Desks.{edited}
 use Rattle.meaning.specs.Desks.{Desk as Plan}
 use Rattle.meaning.specs.Promises.{SoundDesk}
 use Rattle.entries.specs.declared.Entries.{Entries}
-use Rattle.entries.specs.declared.Verdict.the-variants.{Accepted}
+use Rattle.answers.specs.declared.Verdict.the-variants.{Accepted}
 use Rattle.entries.specs.declared.EntriesReply.{EntriesReply}
 use Rattle.entries.specs.Entries.{entriesOf, heldIn, FitEntries, entriesReply}
 use Rattle.entries.proofs.Opened.{held-of-entries}

@@ -1,32 +1,23 @@
--- The desk struct: what it holds, when it is fit, and how the meaning of a call is handed back.
+-- The desk struct: what it holds, when it is fit, and how the meaning of an edit is handed back.
 use mathlib.Core.Path.{_≡_}
 use mathlib.Core.Bool.{Bool, true, false, cond}
-use mathlib.Core.List.{List, [], _∷_}
-use Prim.Native.Nat.{ℕ}
+use mathlib.Core.List.{List, []}
 use lib.ListN.{length, take}
 use Rattle.meaning.specs.declared.Port.{Port}
 use Rattle.meaning.specs.declared.Gate.{Gate}
 use Rattle.meaning.specs.declared.Slot.{Slot}
 use Rattle.meaning.specs.declared.Stream.{Stream}
-use Rattle.meaning.specs.declared.Run.{Run}
 use Rattle.meaning.specs.declared.Stair.{Stair}
 use Rattle.meaning.specs.Runs.{gateOf}
 use Rattle.meaning.specs.Interference.{stairs}
-use Rattle.meaning.specs.Refusals.{Answer, accepted, refused, numberOf, valuesOf}
 use Rattle.meaning.specs.Desks.{bare, opened, Reply}
 use Rattle.meaning.specs.Desks.{Desk as Plan}
 use Rattle.meaning.specs.Promises.{SoundDesk}
 use Rattle.rows.specs.Rows.{slotRow, streamRow}
-use Rattle.gate.specs.Rows.{runRow}
 use Rattle.table.specs.Rows.{tableOf}
-use Rattle.entries.specs.Entries.{verdictOf}
+use Rattle.answers.specs.Answers.{verdictOf}
 use Rattle.desk.specs.declared.Desk.{Desk}
-use Rattle.desk.specs.declared.Figure.{Figure}
-use Rattle.desk.specs.declared.Figure.the-variants as Figures
 use Rattle.desk.specs.declared.EditReply.{EditReply}
-use Rattle.desk.specs.declared.FigureReply.{FigureReply}
-use Rattle.desk.specs.declared.RunsReply.{RunsReply}
-use Rattle.desk.specs.declared.StairsReply.{StairsReply}
 
 -- ---- the struct and what it holds
 
@@ -77,36 +68,7 @@ pub record Fit (d : Desk) : Type 0 where
   pub sound : SoundDesk (held d)
   pub canonical : d ≡ deskOf (held d)
 
--- ---- replies
-
-abbrev pub figureOf : Answer ℕ → Figure
-figureOf (accepted x) = Figures.Is x
-figureOf (refused r) = Figures.Refused r
-
--- the rows asked for, none on a refusal
-abbrev pub rowsOf : {A : Type 0} → Answer (List A) → List A
-rowsOf (accepted xs) = xs
-rowsOf (refused r) = []
+-- ---- the reply of an edit
 
 abbrev pub editReply : Reply (Unit {0}) → EditReply
 editReply r = record { verdict = verdictOf (r .answer); desk = deskOf (r .desk) }
-
-abbrev pub figureReply : Reply ℕ → FigureReply
-figureReply r = record { figure = figureOf (r .answer); desk = deskOf (r .desk) }
-
-abbrev pub runsReply : Reply (List Run) → RunsReply
-runsReply r = record { verdict = verdictOf (r .answer); runs = runRow (rowsOf (r .answer)); desk = deskOf (r .desk) }
-
-abbrev pub stairsReply : Reply (List Stair) → StairsReply
-stairsReply r =
-    record { verdict = verdictOf (r .answer); stairs = tableOf (rowsOf (r .answer)); desk = deskOf (r .desk) }
-
--- ---- document 01's number of a figure's answer, 0 where it is accepted, and the values it carries
-
-unfoldable pub figureNumber : Figure → ℕ
-figureNumber (Figures.Is x) = 0
-figureNumber (Figures.Refused r) = numberOf r
-
-unfoldable pub figureValues : Figure → List ℕ
-figureValues (Figures.Is x) = x ∷ []
-figureValues (Figures.Refused r) = valuesOf r

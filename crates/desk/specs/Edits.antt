@@ -1,8 +1,8 @@
 -- An edit in two parts: what is held is edited on its own, and the desk gets it back with stairs.
 use Rattle.meaning.specs.declared.Refusal.{Refusal}
 use Rattle.entries.specs.declared.Entries.{Entries}
-use Rattle.entries.specs.declared.Verdict.{Verdict}
-use Rattle.entries.specs.declared.Verdict.the-variants.{Accepted, Refused}
+use Rattle.answers.specs.declared.Verdict.{Verdict}
+use Rattle.answers.specs.declared.Verdict.the-variants.{Accepted, Refused}
 use Rattle.desk.specs.declared.Desk.{Desk}
 use Rattle.desk.specs.declared.EditReply.{EditReply}
 

@@ -1,4 +1,3 @@
 pub mod Desks
 pub mod Edits
 pub mod Reach
-pub mod Judged

@@ -1,15 +1,15 @@
 // The parts of an edit: what the desk holds, its stairs kept or built, and the answer.
 ghost use mathlib.Core.Path.{_≡_};
 ghost use mathlib.Core.Bool.{true};
-ghost use Rattle.entries.specs.declared.Verdict.the-variants.{Accepted};
+ghost use Rattle.answers.specs.declared.Verdict.the-variants.{Accepted};
 ghost use Rattle.entries.specs.Entries.{heldIn, FitEntries};
 ghost use Rattle.desk.specs.Desks.{deskOf, Fit};
 ghost use Rattle.desk.specs.Edits.{entriesIn, withEntries, accepting, refusing, answered};
 use crate::Desk;
 use crate::EditReply;
+use answers::Verdict;
 use entries::Entries;
 use entries::EntriesReply;
-use entries::Verdict;
 use meaning::Refusal;
 
 // An accepted edit, and the desk that it made.

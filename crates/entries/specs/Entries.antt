@@ -10,15 +10,14 @@ use Rattle.meaning.specs.declared.Slot.{Slot}
 use Rattle.meaning.specs.declared.Stream.{Stream}
 use Rattle.meaning.specs.declared.Refusal.{Refusal}
 use Rattle.meaning.specs.Runs.{gateOf}
-use Rattle.meaning.specs.Refusals.{Answer, accepted, refused, numberOf}
 use Rattle.meaning.specs.Desks.{Desk, bare, opened, Reply}
 use Rattle.meaning.specs.Promises.{SoundDesk}
+use Rattle.answers.specs.declared.Verdict.the-variants.{Accepted, Refused}
+use Rattle.answers.specs.Answers.{verdictOf}
 use Rattle.rows.specs.Rows.{slotRow, streamRow}
 use Rattle.entries.specs.declared.Entries.{Entries}
 use Rattle.entries.specs.declared.PortNumbers.{PortNumbers}
 use Rattle.entries.specs.declared.StreamNumbers.{StreamNumbers}
-use Rattle.entries.specs.declared.Verdict.{Verdict}
-use Rattle.entries.specs.declared.Verdict.the-variants.{Accepted, Refused}
 use Rattle.entries.specs.declared.EntriesReply.{EntriesReply}
 
 -- ---- the caller's numbers as document 01's records
@@ -116,10 +115,6 @@ withStreamRow e row n =
 
 -- ---- replies
 
-abbrev pub verdictOf : {A : Type 0} → Answer A → Verdict
-verdictOf (accepted a) = Accepted
-verdictOf (refused r) = Refused r
-
 abbrev pub entriesReply : Reply (Unit {0}) → EntriesReply
 entriesReply r = record { verdict = verdictOf (r .answer); entries = entriesOf (r .desk) }
 
@@ -128,8 +123,3 @@ accepting e = record { verdict = Accepted; entries = e }
 
 abbrev pub refusing : Entries → Refusal → EntriesReply
 refusing e why = record { verdict = Refused why; entries = e }
-
--- document 01's number of a verdict, 0 where it is accepted
-unfoldable pub verdictNumber : Verdict → ℕ
-verdictNumber Accepted = 0
-verdictNumber (Refused r) = numberOf r

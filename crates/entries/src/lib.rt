@@ -5,7 +5,7 @@ mod ranges;
 mod slots;
 mod streams;
 
-use meaning::Refusal;
+use answers::Verdict;
 use meaning::Slot;
 use meaning::Stream;
 pub use parts::gate_of;
@@ -46,12 +46,6 @@ pub struct StreamNumbers {
     pub period: u64,
     pub jitter: u64,
     pub deadline: u64,
-}
-
-// What an edit answers, and what a question for rows answers beside its rows.
-pub enum Verdict {
-    Accepted,
-    Refused(Refusal),
 }
 
 pub struct EntriesReply {

@@ -3,7 +3,7 @@ ghost use mathlib.Core.Path.{_≡_};
 ghost use Rattle.entries.specs.Entries.{gateIn, accepting, refusing};
 use crate::Entries;
 use crate::EntriesReply;
-use crate::Verdict;
+use answers::Verdict;
 use meaning::Gate;
 use meaning::Refusal;
 

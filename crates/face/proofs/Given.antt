@@ -10,12 +10,13 @@ use Rattle.meaning.specs.Desks.{edited, asked}
 use Rattle.meaning.specs.Desks.{Desk as Plan}
 use Rattle.desk.specs.declared.Desk.{Desk}
 use Rattle.desk.specs.declared.EditReply.{EditReply}
-use Rattle.desk.specs.declared.FigureReply.{FigureReply}
-use Rattle.desk.specs.declared.RunsReply.{RunsReply}
-use Rattle.desk.specs.declared.StairsReply.{StairsReply}
-use Rattle.desk.specs.Desks.{held, Fit, editReply, figureReply, runsReply, stairsReply}
-use Rattle.plan.specs.declared.WriteReply.{WriteReply}
-use Rattle.plan.specs.Writing.{writeReply}
+use Rattle.questions.specs.declared.FigureReply.{FigureReply}
+use Rattle.questions.specs.declared.RunsReply.{RunsReply}
+use Rattle.questions.specs.declared.StairsReply.{StairsReply}
+use Rattle.desk.specs.Desks.{held, Fit, editReply}
+use Rattle.questions.specs.Replies.{figureReply, runsReply, stairsReply}
+use Rattle.writer.specs.declared.WriteReply.{WriteReply}
+use Rattle.writer.specs.Writing.{writeReply}
 use Rattle.face.specs.declared.Figured.{Figured}
 use Rattle.face.specs.declared.RunsTold.{RunsTold}
 use Rattle.face.specs.declared.StairsTold.{StairsTold}

@@ -6,17 +6,17 @@ use Rattle.meaning.specs.declared.Port.{Port}
 use Rattle.meaning.specs.declared.Stream.{Stream}
 use Rattle.meaning.specs.declared.Refusal.{Refusal}
 use Rattle.desk.specs.declared.Desk.{Desk}
-use Rattle.entries.specs.declared.Verdict.the-variants.{Refused}
+use Rattle.answers.specs.declared.Verdict.the-variants.{Refused}
 use Rattle.desk.specs.declared.EditReply.{EditReply}
-use Rattle.desk.specs.declared.FigureReply.{FigureReply}
-use Rattle.desk.specs.declared.RunsReply.{RunsReply}
-use Rattle.desk.specs.declared.StairsReply.{StairsReply}
-use Rattle.entries.specs.Entries.{verdictNumber}
-use Rattle.desk.specs.Desks.{figureNumber, figureValues}
-use Rattle.plan.specs.declared.ReadReply.{ReadReply}
-use Rattle.plan.specs.declared.WriteReply.{WriteReply}
-use Rattle.plan.specs.Reading.{readNumber, readPlaces}
-use Rattle.plan.specs.Writing.{writeNumber, writeCounts}
+use Rattle.questions.specs.declared.FigureReply.{FigureReply}
+use Rattle.questions.specs.declared.RunsReply.{RunsReply}
+use Rattle.questions.specs.declared.StairsReply.{StairsReply}
+use Rattle.answers.specs.Answers.{verdictNumber}
+use Rattle.answers.specs.Answers.{figureNumber, figureValues}
+use Rattle.reader.specs.declared.ReadReply.{ReadReply}
+use Rattle.writer.specs.declared.WriteReply.{WriteReply}
+use Rattle.reader.specs.Reading.{readNumber, readPlaces}
+use Rattle.writer.specs.Writing.{writeNumber, writeCounts}
 use Rattle.face.specs.declared.Edited.{Edited}
 use Rattle.face.specs.declared.Figured.{Figured}
 use Rattle.face.specs.declared.RunsTold.{RunsTold}

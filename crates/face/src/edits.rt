@@ -6,11 +6,11 @@ ghost use Rattle.entries.specs.Entries.{slotOf};
 ghost use Rattle.desk.specs.Desks.{held, deskOf, Fit, editReply};
 ghost use Rattle.face.specs.Told.{portFrom, streamFrom, numbered, RefusedKeeps};
 use crate::Edited;
+use answers::Verdict;
 use desk::Desk;
 use desk::EditReply;
 use entries::PortNumbers;
 use entries::StreamNumbers;
-use entries::Verdict;
 
 // The reply to an edit of the desk d, with its answer as a number. A refused edit hands d itself back, so that the
 // reply's desk is copied only where it is another.
@@ -21,7 +21,7 @@ fn told_edit(d: Desk, reply: EditReply) -> Edited
     let verdict = reply.verdict;
     if let Verdict::Refused(why) = verdict {
         return Edited {
-            number: desk::number(why),
+            number: answers::number(why),
             desk: d,
         };
     }

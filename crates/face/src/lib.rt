@@ -1,8 +1,8 @@
 // The desk for programs in Rust and C: every call of document 01 with plain numbers in and out, and the desk by value.
+mod asking;
 mod edits;
 mod numbers;
 mod plans;
-mod questions;
 
 use desk::Desk;
 use meaning::Run;

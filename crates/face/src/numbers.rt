@@ -1,16 +1,16 @@
 // Answers as numbers: document 01's number of a refusal, 0 where there is none, and the values beside it.
 ghost use mathlib.Core.Path.{_≡_};
 ghost use Rattle.meaning.specs.Refusals.{valuesOf};
-ghost use Rattle.entries.specs.Entries.{verdictNumber};
-ghost use Rattle.desk.specs.Desks.{figureNumber, figureValues};
-ghost use Rattle.plan.specs.Reading.{readNumber, readPlaces};
-ghost use Rattle.plan.specs.Writing.{writeNumber, writeCounts};
+ghost use Rattle.answers.specs.Answers.{verdictNumber};
+ghost use Rattle.answers.specs.Answers.{figureNumber, figureValues};
+ghost use Rattle.reader.specs.Reading.{readNumber, readPlaces};
+ghost use Rattle.writer.specs.Writing.{writeNumber, writeCounts};
 ghost use Rattle.face.specs.Told.{theOne};
-use desk::Figure;
-use entries::Verdict;
+use answers::Figure;
+use answers::Verdict;
 use meaning::Refusal;
-use plan::ReadAnswer;
-use plan::WriteAnswer;
+use reader::ReadAnswer;
+use writer::WriteAnswer;
 
 // The bound that goes with a refusal: a late stream's.
 fn bound_of(why: Refusal) -> u32
@@ -28,7 +28,7 @@ pub fn verdict_number(answer: Verdict) -> u64
 {
     match answer {
         Verdict::Accepted => 0,
-        Verdict::Refused(why) => desk::number(why),
+        Verdict::Refused(why) => answers::number(why),
     }
 }
 
@@ -38,7 +38,7 @@ pub fn figure_number(answer: Figure) -> u64
 {
     match answer {
         Figure::Is(x) => 0,
-        Figure::Refused(why) => desk::number(why),
+        Figure::Refused(why) => answers::number(why),
     }
 }
 
@@ -58,7 +58,7 @@ pub fn read_number(answer: ReadAnswer) -> u64
 {
     match answer {
         ReadAnswer::Read => 0,
-        ReadAnswer::Refused { why, place } => desk::number(why),
+        ReadAnswer::Refused { why, place } => answers::number(why),
     }
 }
 
@@ -78,7 +78,7 @@ pub fn write_number(answer: WriteAnswer) -> u64
 {
     match answer {
         WriteAnswer::Wrote(n) => 0,
-        WriteAnswer::Refused(why) => desk::number(why),
+        WriteAnswer::Refused(why) => answers::number(why),
     }
 }
 

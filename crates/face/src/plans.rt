@@ -3,8 +3,8 @@ ghost use mathlib.Core.Path.{_≡_};
 ghost use Rattle.meaning.specs.Desks.{asked};
 ghost use Rattle.meaning.specs.Bytes.{readPlan, writePlan, written, roomAfter};
 ghost use Rattle.desk.specs.Desks.{held, Fit};
-ghost use Rattle.plan.specs.Reading.{readReply};
-ghost use Rattle.plan.specs.Writing.{writeReply};
+ghost use Rattle.reader.specs.Reading.{readReply};
+ghost use Rattle.writer.specs.Writing.{writeReply};
 ghost use Rattle.face.specs.Told.{numberedRead, numberedWrite};
 use crate::PlanRead;
 use crate::PlanWritten;
@@ -13,8 +13,8 @@ use crate::numbers::read_place;
 use crate::numbers::write_count;
 use crate::numbers::write_number;
 use desk::Desk;
-use plan::ReadReply;
-use plan::WriteAnswer;
+use reader::ReadReply;
+use writer::WriteAnswer;
 
 // The reply of the reader, with its answer as two numbers.
 fn told_read(reply: ReadReply) -> PlanRead
@@ -49,7 +49,7 @@ fn told_write(d: Desk, answer: WriteAnswer) -> PlanWritten
 pub extern "C" fn desk_read(plan: &[u8]) -> PlanRead
     ensures { λ r. ⌜ (r ≡ numberedRead (readReply (readPlan (now (plan .entry))))) × Fit (r .desk) ⌝ }
 {
-    told_read(plan::read(plan))
+    told_read(reader::read(plan))
 }
 
 // The plan of a desk, written at the front of the caller's room.
@@ -61,7 +61,7 @@ pub extern "C" fn desk_write(d: Desk, room: &mut [u8]) -> PlanWritten
         × (now (room .exit) ≡ roomAfter (now (room .entry)) (writePlan (now (room .entry)) (held d)))
         × Fit (r .desk) ⌝ }
 {
-    let reply = plan::write(d, room);
+    let reply = writer::write(d, room);
     let answer = reply.answer;
     told_write(d, answer)
 }

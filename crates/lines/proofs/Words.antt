@@ -9,8 +9,8 @@ use Rattle.meaning.specs.declared.Refusal.{Refusal}
 use Rattle.meaning.specs.declared.Refusal.the-variants.{Late}
 use Rattle.meaning.specs.Refusals.{valuesOf}
 use Rattle.meaning.specs.Findings.{octetsIn, decimal, told}
-use Rattle.desk.specs.declared.Figure.{Figure}
-use Rattle.desk.specs.declared.Figure.the-variants as Figures
+use Rattle.answers.specs.declared.Figure.{Figure}
+use Rattle.answers.specs.declared.Figure.the-variants as Figures
 use Rattle.lines.specs.Texts.{refusalWords, figureWords}
 
 module _ (deadline : ℕ) (figure : Figure) where

@@ -6,7 +6,7 @@ use Prim.Native.Nat.{ℕ, _+_, _-_, _≤_}
 use native.Mathlib.Omega.{arith}
 use lib.ListN.{length, drop, length-append, length-drop}
 use borrow.Rule.Slice.PartMut.{midOf, putMid}
-use Rattle.fields.proofs.Rooms.{fill-next}
+use Rattle.room.proofs.Rooms.{fill-next}
 use Rattle.lines.specs.Texts.{Wrote}
 
 -- w is written, and f fills the front of what is left

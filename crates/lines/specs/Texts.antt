@@ -5,8 +5,8 @@ use Prim.Native.Nat.{ℕ}
 use lib.ListN.{length, drop}
 use Rattle.meaning.specs.Refusals.{valuesOf}
 use Rattle.meaning.specs.Findings.{octetsIn, told, newline}
-use Rattle.desk.specs.declared.Figure.{Figure}
-use Rattle.desk.specs.declared.Figure.the-variants as Figures
+use Rattle.answers.specs.declared.Figure.{Figure}
+use Rattle.answers.specs.declared.Figure.the-variants as Figures
 
 -- the text is in front of the room, the rest keeps its value, and r octets were written
 pub record Wrote (text : List ℕ) (r : ℕ) (before after : List ℕ) : Type 0 where

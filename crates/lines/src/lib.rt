@@ -8,7 +8,7 @@ ghost use Rattle.lines.specs.Texts.{Wrote, figureWords, figureLine};
 
 mod texts;
 
-use desk::Figure;
+use answers::Figure;
 use meaning::Refusal;
 use meaning::Stair;
 use texts::put_told;

@@ -1,4 +1,4 @@
--- What document 01 says of plans, told of what `plan::read` and `plan::write` answer.
+-- What document 01 says of plans, told of what `reader::read` and `writer::write` answer.
 -- Assumes nothing.
 use mathlib.Core.Path.{_≡_, refl, sym, ap, subst, _∙_}
 use mathlib.Core.Logic.{_↔_, _⊎_, _≢_, Iff·trans, by-cases}
@@ -35,13 +35,13 @@ use Rattle.desk.specs.declared.EditReply.{EditReply}
 use Rattle.desk.specs.Desks.{deskOf, held, Fit, editReply}
 use Rattle.desk.specs.Edits.{accepting}
 use Rattle.desk.proofs.Held.{held-of, held-bare, fit-of, no-second-reply}
-use Rattle.plan.specs.declared.ReadAnswer.the-variants as reads
-use Rattle.plan.specs.declared.ReadReply.{ReadReply}
-use Rattle.plan.specs.declared.WriteAnswer.the-variants.{Wrote, Refused}
-use Rattle.plan.specs.declared.WriteReply.{WriteReply}
-use Rattle.plan.specs.Reading.{readReply}
-use Rattle.plan.specs.Writing.{writeReply, writeNumber}
-use Rattle.plan.proofs.Writes.{lengthIn, Writes, length-of, write-closed, write-no-room, write-open}
+use Rattle.reader.specs.declared.ReadAnswer.the-variants as reads
+use Rattle.reader.specs.declared.ReadReply.{ReadReply}
+use Rattle.writer.specs.declared.WriteAnswer.the-variants.{Wrote, Refused}
+use Rattle.writer.specs.declared.WriteReply.{WriteReply}
+use Rattle.reader.specs.Reading.{readReply}
+use Rattle.writer.specs.Writing.{writeReply, writeNumber}
+use Rattle.writer.proofs.Writes.{lengthIn, Writes, length-of, write-closed, write-no-room, write-open}
 
 -- ---- what the two calls answer, by their contracts
 

@@ -6,8 +6,8 @@ ghost use lib.ListN.{length};
 ghost use Rattle.desk.specs.Desks.{Fit};
 use desk::Desk;
 use libc::STDOUT_FILENO;
-use plan::ReadAnswer;
-use plan::WriteAnswer;
+use reader::ReadAnswer;
+use writer::WriteAnswer;
 
 // The longest input, and the room for the writer.
 const LONGEST: usize = 8_192;
@@ -25,7 +25,7 @@ fn put(a: u64, b: u64) {
 fn put_read(a: ReadAnswer) {
     match a {
         ReadAnswer::Read => put(0, 0),
-        ReadAnswer::Refused { why, place } => put(desk::number(why), place as u64),
+        ReadAnswer::Refused { why, place } => put(answers::number(why), place as u64),
     }
 }
 
@@ -37,7 +37,7 @@ fn put_written(a: WriteAnswer) -> usize {
             n
         }
         WriteAnswer::Refused(why) => {
-            put(desk::number(why), 0);
+            put(answers::number(why), 0);
             0
         }
     }
@@ -65,7 +65,7 @@ fn put_room(room: &[u8], n: usize) {
 fn put_desk(d: Desk, room: &mut [u8]) -> usize
     requires { ⌜ Fit d ⌝ }
 {
-    let w = plan::write(d, room);
+    let w = writer::write(d, room);
     let a = w.answer;
     let count = put_written(a);
     put_room(room, count);
@@ -94,7 +94,7 @@ fn put_short(d: Desk, n: usize)
 fn show(fd: i32) {
     let mut octets = [0u8; LONGEST];
     let n = io::read_full(fd, &mut octets);
-    let r = plan::read(&octets[..n]);
+    let r = reader::read(&octets[..n]);
     let a = r.answer;
     let d = r.desk;
     put_read(a);

@@ -23,9 +23,9 @@ use Rattle.meaning.proofs.Accepted.{accepted-sound, refused-when}
 use Rattle.desk.specs.declared.Desk.{Desk}
 use Rattle.desk.specs.Desks.{filledDesk, deskOf, held}
 use Rattle.desk.proofs.Held.{held-of}
-use Rattle.plan.specs.declared.ReadAnswer.the-variants as reads
-use Rattle.plan.specs.declared.ReadReply.{ReadReply}
-use Rattle.plan.specs.Reading.{readReply}
+use Rattle.reader.specs.declared.ReadAnswer.the-variants as reads
+use Rattle.reader.specs.declared.ReadReply.{ReadReply}
+use Rattle.reader.specs.Reading.{readReply}
 use Rattle.lines.specs.Texts.{Wrote}
 use Rattle.report.proofs.Sizes.{lines-short}
 

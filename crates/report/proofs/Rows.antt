@@ -23,9 +23,11 @@ use Rattle.meaning.proofs.Printing.{response-own}
 use Rattle.rows.specs.Rows.{noStream}
 use Rattle.table.specs.Lookup.{paired, stairsIn}
 use Rattle.desk.specs.declared.Desk.{Desk}
-use Rattle.desk.specs.declared.Figure.the-variants as Figures
-use Rattle.desk.specs.declared.FigureReply.{FigureReply}
-use Rattle.desk.specs.Desks.{held, Fit, figureOf, figureReply, portIn, slotsIn, streamsIn}
+use Rattle.answers.specs.declared.Figure.the-variants as Figures
+use Rattle.questions.specs.declared.FigureReply.{FigureReply}
+use Rattle.answers.specs.Answers.{figureOf}
+use Rattle.desk.specs.Desks.{held, Fit, portIn, slotsIn, streamsIn}
+use Rattle.questions.specs.Replies.{figureReply}
 use Rattle.desk.proofs.OpenFits.{open-fits}
 use Rattle.lines.specs.Texts.{Wrote, refusalWords, figureWords, figureLine}
 use Rattle.lines.proofs.Written.{wrote-as}

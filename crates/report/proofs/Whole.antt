@@ -19,8 +19,9 @@ use Rattle.gate.specs.Rows.{runRow}
 use Rattle.table.specs.Lookup.{stairsIn, allIn}
 use Rattle.table.proofs.Demand.{all-is}
 use Rattle.desk.specs.declared.Desk.{Desk}
-use Rattle.desk.specs.declared.RunsReply.{RunsReply}
-use Rattle.desk.specs.Desks.{held, Fit, rowsOf, runsReply, portIn, slotsIn, streamsIn, gateIn}
+use Rattle.questions.specs.declared.RunsReply.{RunsReply}
+use Rattle.desk.specs.Desks.{held, Fit, portIn, slotsIn, streamsIn, gateIn}
+use Rattle.questions.specs.Replies.{rowsOf, runsReply}
 use Rattle.desk.proofs.OpenFits.{OpenFits, open-fits}
 use Rattle.lines.specs.Texts.{Wrote}
 use Rattle.lines.proofs.Written.{wrote-as}

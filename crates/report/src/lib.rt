@@ -18,7 +18,7 @@ use lines::put_stair;
 use lines::put_stream;
 use meaning::Refusal;
 use meaning::Stair;
-use plan::ReadAnswer;
+use reader::ReadAnswer;
 
 // The lines of the first n stairs, each into the rest of the room.
 fn put_stairs(out: &mut [u8], far: [u32; 993], tot: [u32; 993], n: usize) -> usize
@@ -49,7 +49,7 @@ fn put_streams(out: &mut [u8], d: Desk) -> usize
     let mut k: usize = 0;
     while k < n {
         let j = streams[k];
-        let answer = desk::response(d, j.id as u64);
+        let answer = questions::response(d, j.id as u64);
         let figure = answer.figure;
         at += put_stream(&mut out[at..], j.id, figure, j.deadline);
         k += 1;
@@ -62,7 +62,7 @@ fn put_first(out: &mut [u8], d: Desk) -> usize
     requires { ⌜ Fit d × (d .opened ≡ true) × (64 ≤ length (now out)) ⌝ }
     ensures { λ r. ⌜ Wrote (firstIn d) r (now (out .entry)) (now (out .exit)) ⌝ }
 {
-    let found = desk::runs(d);
+    let found = questions::runs(d);
     let runs = found.runs;
     let all = table::all_blocked(&d.tot, d.nstairs);
     put_blocked(out, all, d.cycle, runs.n)
@@ -85,7 +85,7 @@ pub fn put_refused(out: &mut [u8], why: Refusal, place: usize) -> usize
     requires { ⌜ 64 ≤ length (now out) ⌝ }
     ensures { λ r. ⌜ Wrote (printed (refusedAt why place)) r (now (out .entry)) (now (out .exit)) ⌝ }
 {
-    put_refusal(out, desk::number(why), place)
+    put_refusal(out, answers::number(why), place)
 }
 
 // Room for the longest text, which has 28,543 octets.
@@ -100,7 +100,7 @@ pub fn report(input: &[u8], out: &mut [u8]) -> usize
     requires { ⌜ 32_768 ≤ length (now out) ⌝ }
     ensures { λ r. ⌜ Wrote (findings (now (input .entry))) r (now (out .entry)) (now (out .exit)) ⌝ }
 {
-    let reply = plan::read(input);
+    let reply = reader::read(input);
     let answer = reply.answer;
     let d = reply.desk;
     match answer {

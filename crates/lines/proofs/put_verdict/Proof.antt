@@ -3,7 +3,7 @@
 use native.Mathlib.Omega.{arith}
 use borrow.Author.Needs.{needs}
 use Rattle.meaning.specs.Findings.{octetsIn, told}
-use Rattle.desk.proofs.Carried.{carries-none}
+use Rattle.answers.proofs.Carried.{carries-none}
 use Rattle.lines.proofs.Words.{bound-words, late-words, endless-words}
 use Rattle.lines.proofs.Words.{bound-length, late-length, endless-length}
 use Rattle.lines.proofs.put_verdict.Statement.{statement}

@@ -4,7 +4,7 @@ use mathlib.Core.Path.{sym, ap}
 use borrow.Author.Needs.{needs}
 use Rattle.meaning.specs.Refusals.{valuesOf}
 use Rattle.face.specs.Told.{theOne}
-use Rattle.desk.proofs.Carried.{carries-none}
+use Rattle.answers.proofs.Carried.{carries-none}
 use Rattle.face.proofs.numbers.bound_of.Statement.{statement}
 use Rattle.face.proofs.numbers.bound_of.Tie as tie
 

@@ -2,7 +2,7 @@
 -- Assumes nothing.
 use mathlib.Core.Path.{sym, ap, _∙_}
 use borrow.Author.Needs.{needs}
-use Rattle.desk.specs.Desks.{figureNumber}
+use Rattle.answers.specs.Answers.{figureNumber}
 use Rattle.face.proofs.numbers.figure_number.Statement.{statement}
 use Rattle.face.proofs.numbers.figure_number.Tie as tie
 

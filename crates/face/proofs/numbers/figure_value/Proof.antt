@@ -2,7 +2,7 @@
 -- Assumes nothing.
 use mathlib.Core.Path.{sym, ap, _∙_}
 use borrow.Author.Needs.{needs}
-use Rattle.desk.specs.Desks.{figureValues}
+use Rattle.answers.specs.Answers.{figureValues}
 use Rattle.face.specs.Told.{theOne}
 use Rattle.face.proofs.numbers.figure_value.Statement.{statement}
 use Rattle.face.proofs.numbers.figure_value.Tie as tie

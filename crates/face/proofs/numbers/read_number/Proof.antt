@@ -2,7 +2,7 @@
 -- Assumes nothing.
 use mathlib.Core.Path.{sym, ap, _∙_}
 use borrow.Author.Needs.{needs}
-use Rattle.plan.specs.Reading.{readNumber}
+use Rattle.reader.specs.Reading.{readNumber}
 use Rattle.face.proofs.numbers.read_number.Statement.{statement}
 use Rattle.face.proofs.numbers.read_number.Tie as tie
 

@@ -2,7 +2,7 @@
 -- Assumes nothing.
 use mathlib.Core.Path.{sym, ap}
 use borrow.Author.Needs.{needs}
-use Rattle.plan.specs.Reading.{readPlaces}
+use Rattle.reader.specs.Reading.{readPlaces}
 use Rattle.face.specs.Told.{theOne}
 use Rattle.face.proofs.numbers.read_place.Statement.{statement}
 use Rattle.face.proofs.numbers.read_place.Tie as tie

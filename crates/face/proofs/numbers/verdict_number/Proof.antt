@@ -2,7 +2,7 @@
 -- Assumes nothing.
 use mathlib.Core.Path.{sym, ap, _∙_}
 use borrow.Author.Needs.{needs}
-use Rattle.entries.specs.Entries.{verdictNumber}
+use Rattle.answers.specs.Answers.{verdictNumber}
 use Rattle.face.proofs.numbers.verdict_number.Statement.{statement}
 use Rattle.face.proofs.numbers.verdict_number.Tie as tie
 

@@ -2,7 +2,7 @@
 -- Assumes nothing.
 use mathlib.Core.Path.{sym, ap}
 use borrow.Author.Needs.{needs}
-use Rattle.plan.specs.Writing.{writeCounts}
+use Rattle.writer.specs.Writing.{writeCounts}
 use Rattle.face.specs.Told.{theOne}
 use Rattle.face.proofs.numbers.write_count.Statement.{statement}
 use Rattle.face.proofs.numbers.write_count.Tie as tie

@@ -2,7 +2,7 @@
 -- Assumes nothing.
 use mathlib.Core.Path.{sym, ap, _∙_}
 use borrow.Author.Needs.{needs}
-use Rattle.plan.specs.Writing.{writeNumber}
+use Rattle.writer.specs.Writing.{writeNumber}
 use Rattle.face.proofs.numbers.write_number.Statement.{statement}
 use Rattle.face.proofs.numbers.write_number.Tie as tie
 
