@@ -1,4 +1,4 @@
--- `fields::put1` meets its contract: one store.
+-- `room::put1` meets its contract: one store.
 -- Assumes nothing.
 use mathlib.Core.Path.{refl}
 use native.Mathlib.Omega.{arith}

@@ -1,4 +1,4 @@
--- `fields::put2` meets its contract: a store for each octet, the higher first.
+-- `room::put2` meets its contract: a store for each octet, the higher first.
 -- Assumes nothing.
 use mathlib.Core.Path.{refl}
 use Prim.Native.Nat.{_/_}

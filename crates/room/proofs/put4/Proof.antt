@@ -1,4 +1,4 @@
--- `fields::put4` meets its contract: a store for each octet, the highest first.
+-- `room::put4` meets its contract: a store for each octet, the highest first.
 -- Assumes nothing.
 use mathlib.Core.Path.{refl}
 use Prim.Native.Nat.{_/_}

@@ -1,4 +1,4 @@
--- `fields::put_short` meets its contract: each number fills the front of what is left.
+-- `room::put_short` meets its contract: each number fills the front of what is left.
 -- Assumes nothing.
 use mathlib.Core.Path.{refl}
 use mathlib.Core.List.{_++_}

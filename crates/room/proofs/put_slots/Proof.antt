@@ -1,4 +1,4 @@
--- `fields::put_slots` meets its contract: each field fills the front of what those before it leave.
+-- `room::put_slots` meets its contract: each field fills the front of what those before it leave.
 -- Assumes nothing.
 use mathlib.Core.Path.{_≡_, refl}
 use Prim.Native.Nat.{_-_}

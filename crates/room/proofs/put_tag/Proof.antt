@@ -1,4 +1,4 @@
--- `fields::put_tag` meets its contract: the length fills the front of what the tag leaves.
+-- `room::put_tag` meets its contract: the length fills the front of what the tag leaves.
 -- Assumes nothing.
 use borrow.Author.Needs.{needs}
 use Rattle.meaning.specs.Bytes.{octetsOf}

@@ -1,4 +1,4 @@
--- `fields::put_times` meets its contract: each time fills the front of what is left.
+-- `room::put_times` meets its contract: each time fills the front of what is left.
 -- Assumes nothing.
 use mathlib.Core.Path.{refl}
 use mathlib.Core.List.{_++_}
