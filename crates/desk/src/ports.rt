@@ -2,15 +2,15 @@
 ghost use mathlib.Core.Path.{_≡_};
 ghost use Rattle.meaning.specs.Desks.{bare, edited};
 ghost use Rattle.meaning.specs.Calls.{openPort};
-ghost use Rattle.entries.specs.Entries.{portOf};
+ghost use Rattle.ranges.specs.Numbers.{portOf};
 ghost use Rattle.desk.specs.Desks.{held, deskOf, Fit, editReply};
 use crate::Desk;
 use crate::EditReply;
 use crate::parts::entries_of;
 use crate::parts::keep_stairs;
-use entries::PortNumbers;
 use meaning::Slot;
 use meaning::Stream;
+use ranges::PortNumbers;
 
 // The bare desk: it has no port, and every place is free.
 pub fn bare() -> Desk

@@ -2,7 +2,7 @@
 ghost use mathlib.Core.Path.{_≡_};
 ghost use Rattle.meaning.specs.Desks.{edited};
 ghost use Rattle.meaning.specs.Calls.{addSlot, removeSlot};
-ghost use Rattle.entries.specs.Entries.{slotOf};
+ghost use Rattle.ranges.specs.Numbers.{slotOf};
 ghost use Rattle.desk.specs.Desks.{held, Fit, editReply};
 use crate::Desk;
 use crate::EditReply;

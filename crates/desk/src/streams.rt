@@ -2,13 +2,13 @@
 ghost use mathlib.Core.Path.{_≡_};
 ghost use Rattle.meaning.specs.Desks.{edited};
 ghost use Rattle.meaning.specs.Calls.{addStream, removeStream};
-ghost use Rattle.entries.specs.Entries.{streamOf};
+ghost use Rattle.ranges.specs.Numbers.{streamOf};
 ghost use Rattle.desk.specs.Desks.{held, Fit, editReply};
 use crate::Desk;
 use crate::EditReply;
 use crate::parts::entries_of;
 use crate::parts::keep_stairs;
-use entries::StreamNumbers;
+use ranges::StreamNumbers;
 
 // The desk with one stream more.
 pub fn add_stream(d: Desk, j: StreamNumbers) -> EditReply

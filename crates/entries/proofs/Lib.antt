@@ -2,7 +2,6 @@ pub mod Opened
 pub mod Answers
 pub mod Places
 pub mod GateLaws
-pub mod RangeLaws
 pub mod PortLaws
 pub mod SlotLaws
 pub mod StreamLaws

@@ -16,28 +16,7 @@ use Rattle.answers.specs.declared.Verdict.the-variants.{Accepted, Refused}
 use Rattle.answers.specs.Answers.{verdictOf}
 use Rattle.rows.specs.Rows.{slotRow, streamRow}
 use Rattle.entries.specs.declared.Entries.{Entries}
-use Rattle.entries.specs.declared.PortNumbers.{PortNumbers}
-use Rattle.entries.specs.declared.StreamNumbers.{StreamNumbers}
 use Rattle.entries.specs.declared.EntriesReply.{EntriesReply}
-
--- ---- the caller's numbers as document 01's records
-
-abbrev pub portOf : PortNumbers → Port
-portOf p = record { rate = p .rate; cycle = p .cycle; guard = p .guard; header = p .header }
-
-abbrev pub slotOf : ℕ → ℕ → Slot
-slotOf start end = record { start = start; end = end }
-
-abbrev pub streamOf : StreamNumbers → Stream
-streamOf j =
-    record {
-      id = j .id;
-      priority = j .priority;
-      octets = j .octets;
-      period = j .period;
-      jitter = j .jitter;
-      deadline = j .deadline;
-    }
 
 -- ---- the struct and what it holds
 

@@ -1,7 +1,6 @@
 // What a desk holds (document 01), without its stairs: port, slots and streams, and each edit of them.
 mod parts;
 mod ports;
-mod ranges;
 mod slots;
 mod streams;
 
@@ -28,24 +27,6 @@ pub struct Entries {
     pub slots: [Slot; 32],
     pub nstreams: usize,
     pub streams: [Stream; 64],
-}
-
-// The numbers of a port, as a caller has them.
-pub struct PortNumbers {
-    pub rate: u64,
-    pub cycle: u64,
-    pub guard: u64,
-    pub header: u64,
-}
-
-// The numbers of a stream, as a caller has them.
-pub struct StreamNumbers {
-    pub id: u64,
-    pub priority: u64,
-    pub octets: u64,
-    pub period: u64,
-    pub jitter: u64,
-    pub deadline: u64,
 }
 
 pub struct EntriesReply {

@@ -2,17 +2,16 @@
 ghost use mathlib.Core.Path.{_≡_};
 ghost use Rattle.meaning.specs.Desks.{bare, edited};
 ghost use Rattle.meaning.specs.Calls.{openPort};
-ghost use Rattle.entries.specs.Entries.{heldIn, entriesOf, FitEntries, portOf, entriesReply};
+ghost use Rattle.ranges.specs.Numbers.{portOf};
+ghost use Rattle.entries.specs.Entries.{heldIn, entriesOf, FitEntries, entriesReply};
 use crate::Entries;
 use crate::EntriesReply;
-use crate::PortNumbers;
 use crate::parts::accept;
 use crate::parts::refuse;
-use crate::ranges::narrow_port;
-use crate::ranges::port_in_range;
 use meaning::Refusal;
 use meaning::Slot;
 use meaning::Stream;
+use ranges::PortNumbers;
 
 // Nothing entered: no port is open, and every place is free.
 pub fn none() -> Entries
@@ -49,10 +48,10 @@ pub fn hold_port(e: Entries, p: PortNumbers) -> EntriesReply
     if e.opened {
         return refuse(e, Refusal::OutOfTurn);
     }
-    if !port_in_range(p) {
+    if !ranges::port_in_range(p) {
         return refuse(e, Refusal::OutOfRange);
     }
-    let q = narrow_port(p);
+    let q = ranges::narrow_port(p);
     let mut made = e;
     made.opened = true;
     made.rate = q.rate;

@@ -4,14 +4,13 @@ ghost use mathlib.Core.Bool.{true};
 ghost use Rattle.meaning.specs.Ranges.{slotRanges, inRange};
 ghost use Rattle.meaning.specs.Desks.{edited};
 ghost use Rattle.meaning.specs.Calls.{addSlot, removeSlot};
-ghost use Rattle.entries.specs.Entries.{heldIn, FitEntries, slotOf, withSlotRow, entriesReply};
+ghost use Rattle.ranges.specs.Numbers.{slotOf};
+ghost use Rattle.entries.specs.Entries.{heldIn, FitEntries, withSlotRow, entriesReply};
 use crate::Entries;
 use crate::EntriesReply;
 use crate::parts::accept;
 use crate::parts::gate_of;
 use crate::parts::refuse;
-use crate::ranges::narrow_slot;
-use crate::ranges::slot_in_range;
 use meaning::Refusal;
 use meaning::Slot;
 
@@ -55,10 +54,10 @@ pub fn hold_slot(e: Entries, start: u64, end: u64) -> EntriesReply
     if !e.opened {
         return refuse(e, Refusal::OutOfTurn);
     }
-    if !slot_in_range(e.cycle, start, end) {
+    if !ranges::slot_in_range(e.cycle, start, end) {
         return refuse(e, Refusal::OutOfRange);
     }
-    place_slot(e, narrow_slot(start, end))
+    place_slot(e, ranges::narrow_slot(start, end))
 }
 
 // The slot that has this start taken out.

@@ -4,16 +4,15 @@ ghost use mathlib.Core.Bool.{true};
 ghost use Rattle.meaning.specs.Ranges.{streamRanges, inRange};
 ghost use Rattle.meaning.specs.Desks.{edited};
 ghost use Rattle.meaning.specs.Calls.{addStream, removeStream};
-ghost use Rattle.entries.specs.Entries.{heldIn, FitEntries, streamOf, withStreamRow, entriesReply};
+ghost use Rattle.ranges.specs.Numbers.{streamOf};
+ghost use Rattle.entries.specs.Entries.{heldIn, FitEntries, withStreamRow, entriesReply};
 use crate::Entries;
 use crate::EntriesReply;
-use crate::StreamNumbers;
 use crate::parts::accept;
 use crate::parts::refuse;
-use crate::ranges::narrow_stream;
-use crate::ranges::stream_in_range;
 use meaning::Refusal;
 use meaning::Stream;
+use ranges::StreamNumbers;
 
 // The entries with this row of streams, of which n are held.
 fn with_streams(e: Entries, row: [Stream; 64], n: usize) -> Entries
@@ -52,10 +51,10 @@ pub fn hold_stream(e: Entries, j: StreamNumbers) -> EntriesReply
     if !e.opened {
         return refuse(e, Refusal::OutOfTurn);
     }
-    if !stream_in_range(j) {
+    if !ranges::stream_in_range(j) {
         return refuse(e, Refusal::OutOfRange);
     }
-    place_stream(e, narrow_stream(j))
+    place_stream(e, ranges::narrow_stream(j))
 }
 
 // The stream that has this id taken out.

@@ -2,15 +2,15 @@
 ghost use mathlib.Core.Path.{_≡_};
 ghost use Rattle.meaning.specs.Desks.{bare, edited};
 ghost use Rattle.meaning.specs.Calls.{openPort, addSlot, removeSlot, addStream, removeStream};
-ghost use Rattle.entries.specs.Entries.{slotOf};
+ghost use Rattle.ranges.specs.Numbers.{slotOf};
 ghost use Rattle.desk.specs.Desks.{held, deskOf, Fit, editReply};
 ghost use Rattle.face.specs.Told.{portFrom, streamFrom, numbered, RefusedKeeps};
 use crate::Edited;
 use answers::Verdict;
 use desk::Desk;
 use desk::EditReply;
-use entries::PortNumbers;
-use entries::StreamNumbers;
+use ranges::PortNumbers;
+use ranges::StreamNumbers;
 
 // The reply to an edit of the desk d, with its answer as a number. A refused edit hands d itself back, so that the
 // reply's desk is copied only where it is another.

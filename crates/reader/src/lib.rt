@@ -6,7 +6,8 @@ ghost use Prim.Native.Nat.{_+_, _≤_, _<_};
 ghost use lib.ListN.{length, drop};
 ghost use Rattle.meaning.specs.Desks.{edited};
 ghost use Rattle.meaning.specs.Bytes.{going, step, ended, refusedAt, readPlan};
-ghost use Rattle.entries.specs.Entries.{heldIn, FitEntries, portOf, streamOf, entriesReply};
+ghost use Rattle.ranges.specs.Numbers.{portOf, streamOf};
+ghost use Rattle.entries.specs.Entries.{heldIn, FitEntries, entriesReply};
 ghost use Rattle.desk.specs.Desks.{Fit};
 ghost use Rattle.fields.specs.Reading.{told};
 ghost use Rattle.reader.specs.Reading.{octetsAt, editTold, walkedTo, readReply};
@@ -14,12 +15,12 @@ use answers::Verdict;
 use desk::Desk;
 use entries::Entries;
 use entries::EntriesReply;
-use entries::PortNumbers;
-use entries::StreamNumbers;
 use fields::FieldAt;
 use meaning::Port;
 use meaning::Refusal;
 use meaning::Stream;
+use ranges::PortNumbers;
+use ranges::StreamNumbers;
 
 // What reading a plan answers: its place, on a refusal, is that of the field's first octet.
 pub enum ReadAnswer {

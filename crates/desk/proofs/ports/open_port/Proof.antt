@@ -4,7 +4,7 @@ use borrow.Author.Needs.{needs}
 use Rattle.meaning.specs.Refusals.{Answer}
 use Rattle.meaning.specs.Desks.{Desk as Plan}
 use Rattle.meaning.specs.Calls.{openPort}
-use Rattle.entries.specs.Entries.{portOf}
+use Rattle.ranges.specs.Numbers.{portOf}
 use Rattle.desk.proofs.Answers.{may-edit, kept-edit}
 use Rattle.desk.proofs.StairLaws.{open-stairs}
 use Rattle.desk.proofs.ports.open_port.Statement.{statement}

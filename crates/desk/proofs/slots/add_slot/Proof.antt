@@ -4,7 +4,7 @@ use borrow.Author.Needs.{needs}
 use Rattle.meaning.specs.Refusals.{Answer}
 use Rattle.meaning.specs.Desks.{Desk as Plan}
 use Rattle.meaning.specs.Calls.{addSlot}
-use Rattle.entries.specs.Entries.{slotOf}
+use Rattle.ranges.specs.Numbers.{slotOf}
 use Rattle.desk.proofs.Answers.{may-edit, may-get-stairs, built-edit}
 use Rattle.desk.proofs.StairLaws.{added-open}
 use Rattle.desk.proofs.slots.add_slot.Statement.{statement}

@@ -4,7 +4,7 @@ use borrow.Author.Needs.{needs}
 use Rattle.meaning.specs.Refusals.{Answer}
 use Rattle.meaning.specs.Desks.{Desk as Plan}
 use Rattle.meaning.specs.Calls.{addStream}
-use Rattle.entries.specs.Entries.{streamOf}
+use Rattle.ranges.specs.Numbers.{streamOf}
 use Rattle.desk.proofs.Answers.{may-edit, kept-edit}
 use Rattle.desk.proofs.StairLaws.{add-stream-stairs}
 use Rattle.desk.proofs.streams.add_stream.Statement.{statement}

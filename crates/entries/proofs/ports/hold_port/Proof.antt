@@ -7,7 +7,8 @@ use borrow.Author.Needs.{needs}
 use borrow.Author.Tests.{not-true, not-false}
 use Rattle.meaning.specs.Desks.{opened}
 use Rattle.meaning.proofs.Sounds.{open-sound}
-use Rattle.entries.specs.Entries.{heldIn, portOf, accepting}
+use Rattle.ranges.specs.Numbers.{portOf}
+use Rattle.entries.specs.Entries.{heldIn, accepting}
 use Rattle.entries.proofs.Opened.{open-entries}
 use Rattle.entries.proofs.Answers.{refusal-edits, acceptance-edits}
 use Rattle.entries.proofs.PortLaws.{open-out-of-turn, open-out-of-range, open-accepts, port-set}

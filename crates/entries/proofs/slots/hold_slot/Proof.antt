@@ -7,8 +7,9 @@ use borrow.Author.Tests.{not-true, not-false}
 use Rattle.meaning.specs.declared.Slot.{Slot}
 use Rattle.meaning.specs.Ranges.{slotRanges, inRange}
 use Rattle.meaning.specs.Calls.{addSlot}
+use Rattle.ranges.specs.Numbers.{slotOf}
 use Rattle.entries.specs.declared.Entries.{Entries}
-use Rattle.entries.specs.Entries.{heldIn, slotOf}
+use Rattle.entries.specs.Entries.{heldIn}
 use Rattle.entries.proofs.Opened.{Open, open-entries}
 use Rattle.entries.proofs.Answers.{Edits, refusal-edits}
 use Rattle.entries.proofs.SlotLaws.{add-slot-out-of-turn, add-slot-out-of-range, slot-in-32-bits}

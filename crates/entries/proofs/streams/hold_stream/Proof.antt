@@ -8,8 +8,9 @@ use borrow.Author.Tests.{not-true, not-false}
 use Rattle.meaning.specs.declared.Stream.{Stream}
 use Rattle.meaning.specs.Ranges.{streamRanges, inRange}
 use Rattle.meaning.specs.Calls.{addStream}
+use Rattle.ranges.specs.Numbers.{streamOf}
 use Rattle.entries.specs.declared.Entries.{Entries}
-use Rattle.entries.specs.Entries.{heldIn, streamOf}
+use Rattle.entries.specs.Entries.{heldIn}
 use Rattle.entries.proofs.Opened.{Open, open-entries}
 use Rattle.entries.proofs.Answers.{Edits, refusal-edits}
 use Rattle.entries.proofs.StreamLaws.{add-stream-out-of-turn, add-stream-out-of-range}

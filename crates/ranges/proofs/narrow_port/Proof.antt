@@ -1,11 +1,11 @@
--- `entries::ranges::narrow_port` meets its contract: numbers in range fit 32 bits.
+-- `ranges::narrow_port` meets its contract: numbers in range fit 32 bits.
 -- Assumes nothing.
 use Prim.Native.Nat.{_<_}
 use native.Mathlib.Omega.{arith}
 use Rattle.meaning.proofs.InRange.{port-in}
-use Rattle.entries.specs.Entries.{portOf}
-use Rattle.entries.proofs.ranges.narrow_port.Statement.{statement}
-use Rattle.entries.proofs.ranges.narrow_port.Tie as tie
+use Rattle.ranges.specs.Numbers.{portOf}
+use Rattle.ranges.proofs.narrow_port.Statement.{statement}
+use Rattle.ranges.proofs.narrow_port.Tie as tie
 
 -- each number fits 32 bits
 in-32-bits : (c : tie.Start)

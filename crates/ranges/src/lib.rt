@@ -4,12 +4,28 @@ ghost use mathlib.Core.Bool.{true};
 ghost use Prim.Native.Nat.{_<_};
 ghost use Rattle.meaning.specs.Ranges as Meant;
 ghost use Rattle.meaning.specs.Ranges.{portRanges, slotRanges, streamRanges, inRange};
-ghost use Rattle.entries.specs.Entries.{portOf, slotOf, streamOf};
-use crate::PortNumbers;
-use crate::StreamNumbers;
+ghost use Rattle.ranges.specs.Numbers.{portOf, slotOf, streamOf};
 use meaning::Port;
 use meaning::Slot;
 use meaning::Stream;
+
+// The numbers of a port, as a caller has them.
+pub struct PortNumbers {
+    pub rate: u64,
+    pub cycle: u64,
+    pub guard: u64,
+    pub header: u64,
+}
+
+// The numbers of a stream, as a caller has them.
+pub struct StreamNumbers {
+    pub id: u64,
+    pub priority: u64,
+    pub octets: u64,
+    pub period: u64,
+    pub jitter: u64,
+    pub deadline: u64,
+}
 
 // The octets of a frame, at most.
 const OCTET_LIMIT: u64 = 1_522;

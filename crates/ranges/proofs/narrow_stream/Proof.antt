@@ -1,11 +1,11 @@
--- `entries::ranges::narrow_stream` meets its contract: numbers in range fit 32 bits.
+-- `ranges::narrow_stream` meets its contract: numbers in range fit 32 bits.
 -- Assumes nothing.
 use Prim.Native.Nat.{_<_}
 use native.Mathlib.Omega.{arith}
 use Rattle.meaning.proofs.InRange.{stream-in}
-use Rattle.entries.specs.Entries.{streamOf}
-use Rattle.entries.proofs.ranges.narrow_stream.Statement.{statement}
-use Rattle.entries.proofs.ranges.narrow_stream.Tie as tie
+use Rattle.ranges.specs.Numbers.{streamOf}
+use Rattle.ranges.proofs.narrow_stream.Statement.{statement}
+use Rattle.ranges.proofs.narrow_stream.Tie as tie
 
 -- each number fits 32 bits
 in-32-bits : (c : tie.Start)

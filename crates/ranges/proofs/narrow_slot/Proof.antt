@@ -1,9 +1,9 @@
--- `entries::ranges::narrow_slot` meets its contract: each number stays the same.
+-- `ranges::narrow_slot` meets its contract: each number stays the same.
 -- Assumes nothing.
 use borrow.Author.Needs.{needs}
-use Rattle.entries.specs.Entries.{slotOf}
-use Rattle.entries.proofs.ranges.narrow_slot.Statement.{statement}
-use Rattle.entries.proofs.ranges.narrow_slot.Tie as tie
+use Rattle.ranges.specs.Numbers.{slotOf}
+use Rattle.ranges.proofs.narrow_slot.Statement.{statement}
+use Rattle.ranges.proofs.narrow_slot.Tie as tie
 
 narrow-requires : tie.Need-narrow-requires
 narrow-requires c κs = search needs
