@@ -24,12 +24,13 @@ use Rattle.meaning.proofs.Refusing.{accepted≢refused}
 use Rattle.meaning.proofs.Conditions.{open-says, add-slot-says, remove-slot-says, add-stream-says, remove-stream-says}
 use Rattle.meaning.proofs.Sounds.{gate-of-streams}
 use Rattle.meaning.proofs.ChainFree.{runs-few}
-use Rattle.meaning.proofs.Windows.{all-at-most-cycle}
-use Rattle.meaning.proofs.Gates.{slots-rise, slots-below, slots-long, slots-stairway}
+use Rattle.meaning.proofs.Gates.{slots-stairway}
 use Rattle.gate.specs.declared.RunRow.{RunRow}
 use Rattle.gate.specs.Rows.{GateFits, noRun, runRow}
 use Rattle.table.specs.declared.Table.{Table}
-use Rattle.table.specs.Rows.{tableOf, RunsFit}
+use Rattle.table.specs.Rows.{tableOf}
+use Rattle.stairs.specs.Rows.{RunsFit}
+use Rattle.stairs.proofs.Rows.{slots-fit}
 use Rattle.entries.specs.declared.Entries.{Entries}
 use Rattle.entries.specs.Entries.{filledEntries, entriesOf, heldIn, portIn, slotsIn, streamsIn, gateIn}
 use Rattle.entries.proofs.Opened.{Open}
@@ -44,16 +45,8 @@ runs-fit : (p : Port) (ss : List Slot) (js : List Stream) → Sound p ss js
     → RunsFit (gateOf p js .cycle) (runs (gateOf p js) ss)
 unfolding mostSlots
 runs-fit p ss js s =
-    let g = gate-fits p js (s .port-in) in
-    record {
-      few = omega (arith, runs-few (gateOf p js) ss (gate-chain p js ss (s .chain)), s .few-slots);
-      some-cells = g .cycle-least;
-      in-horizon = g .cycle-most;
-      rises = slots-rise (gateOf p js) ss;
-      below = slots-below (gateOf p js) ss;
-      long = slots-long (gateOf p js) ss;
-      all-fit = all-at-most-cycle (gateOf p js) ss (s .some-free);
-    }
+    slots-fit (gateOf p js) ss (gate-fits p js (s .port-in) .cycle-most) (s .few-slots)
+    (gate-chain p js ss (s .chain)) (s .some-free)
 
 -- what a row of runs holds
 runs-taken : (rs : List Run) (found : RunRow) → found ≡ runRow rs → take (found .n) (found .row) ≡ rs

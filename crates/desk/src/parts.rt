@@ -80,7 +80,7 @@ pub fn with_stairs(e: Entries) -> Desk
     let streams = e.streams;
     let found = gate::find_runs(g, slots, e.nslots);
     let runs = found.row;
-    let t = table::build(g.cycle, runs, found.n);
+    let t = stairs::build(g.cycle, runs, found.n);
     let far = t.far;
     let tot = t.tot;
     Desk {

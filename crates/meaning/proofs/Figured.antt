@@ -33,7 +33,7 @@ use Rattle.meaning.specs.Calls.{addSlot, askRuns, askStairs, askInterfer
 use Rattle.meaning.specs.Calls.{askResponse}
 use Rattle.meaning.specs.Bytes.{planLength, front, afterFront, step, walk, refusedAt, ended, readPlan}
 use Rattle.meaning.specs.Promises.{Sound}
-use Rattle.meaning.specs.Figures.{slot, run, stair, octetsF, portF, slotsF, streamF₁, streamF₂, deskF, port₈}
+use Rattle.meaning.specs.Figures.{slot, run, stair, octetsF, portF, slotsF, streamF₁, streamF₂, port₈}
 use Rattle.meaning.specs.Figures.{stream₈, Figures}
 use Rattle.meaning.proofs.CallInstances.{octets-are-F}
 use Rattle.meaning.proofs.Counts.{met}

@@ -19,7 +19,7 @@ use Rattle.meaning.specs.declared.Slot.{Slot}
 use Rattle.meaning.specs.declared.Stream.{Stream}
 use Rattle.meaning.specs.declared.Run.{Run}
 use Rattle.meaning.specs.declared.Stair.{Stair}
-use Rattle.meaning.specs.Runs.{gateOf, runs}
+use Rattle.meaning.specs.Runs.{runs}
 use Rattle.meaning.specs.Interference.{allLen, stairs}
 use Rattle.meaning.specs.Refusals.{numberOf}
 use Rattle.meaning.specs.Desks.{opened}

@@ -16,7 +16,7 @@ use Rattle.meaning.specs.Runs.{gateOf, runs}
 use Rattle.meaning.specs.Interference.{allLen, stairs}
 use Rattle.meaning.specs.Response.{late}
 use Rattle.meaning.specs.Refusals.{numberOf}
-use Rattle.meaning.specs.Desks.{Desk, bare, opened}
+use Rattle.meaning.specs.Desks.{bare, opened}
 use Rattle.meaning.specs.Calls.{boundOf}
 use Rattle.meaning.specs.Bytes.{Outcome, read, refusedAt, readPlan}
 

@@ -23,7 +23,6 @@ use Rattle.meaning.proofs.Printing.{response-own}
 use Rattle.rows.specs.Rows.{noStream}
 use Rattle.table.specs.Lookup.{paired, stairsIn}
 use Rattle.desk.specs.declared.Desk.{Desk}
-use Rattle.answers.specs.declared.Figure.the-variants as Figures
 use Rattle.questions.specs.declared.FigureReply.{FigureReply}
 use Rattle.answers.specs.Answers.{figureOf}
 use Rattle.desk.specs.Desks.{held, Fit, portIn, slotsIn, streamsIn}

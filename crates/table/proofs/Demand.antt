@@ -5,7 +5,7 @@ use mathlib.Core.Logic.{by-cases}
 use mathlib.Core.Bool.{true}
 use mathlib.Core.List.{List, map, getLastD}
 use Prim.Native.Nat.{ℕ, _-_, _≤_}
-use native.Mathlib.Nat.{mul-le-mul, le-trans}
+use native.Mathlib.Nat.{mul-le-mul}
 use native.Mathlib.Decide.{decLe}
 use native.Mathlib.Omega.{arith}
 use lib.ListN.{length, length-map}
@@ -16,11 +16,8 @@ use Rattle.meaning.specs.declared.Stair.{Stair}
 use Rattle.meaning.specs.Runs.{hasFree, runs}
 use Rattle.meaning.specs.Interference.{allLen, byStairs, interference, stairs}
 use Rattle.meaning.proofs.Cells.{free-cell}
-use Rattle.meaning.proofs.Windows.{covering, all-at-most-cycle}
-use Rattle.meaning.proofs.ChainFree.{runs-few}
-use Rattle.meaning.specs.Promises.{Chain}
-use Rattle.meaning.proofs.Gates.{slots-stairway, slots-by-stairs, slots-rise, slots-below, slots-long}
-use Rattle.table.specs.Rows.{RunsFit}
+use Rattle.meaning.proofs.Windows.{covering}
+use Rattle.meaning.proofs.Gates.{slots-stairway, slots-by-stairs}
 use Rattle.table.specs.Lookup.{stairsIn, allIn, TableFits, DemandThree}
 use Rattle.laws.proofs.Rows.{filled-length}
 use Rattle.table.proofs.Stored.{rows-long, last-all, rows-rise, rows-hold}
@@ -33,21 +30,6 @@ stairs-few g ss h =
     by-cases (decLe 1 k)
     (λ l. omega (arith, way .few l, mul-le-mul {n₁ = k} {m₁ = k - 1} {n₂ = 32} {m₂ = 31} h (omega arith)))
     (λ l. omega (arith, ap (λ (st : List Stair). length st) (way .none (omega arith))))
-
--- the runs of a few slots in a chain that leave a cell free: what building the stairs asks
-pub slots-fit : (g : Gate) (ss : List Slot) → g .cycle ≤ 100_000_000 → length ss ≤ 32 → Chain 0 ss (g .cycle)
-    → hasFree g ss ≡ true → RunsFit (g .cycle) (runs g ss)
-slots-fit g ss most few links free =
-    let (c, h, e) = free-cell g ss .0 free in
-    record {
-      few = le-trans (runs-few g ss links) few;
-      some-cells = omega arith;
-      in-horizon = most;
-      rises = slots-rise g ss;
-      below = slots-below g ss;
-      long = slots-long g ss;
-      all-fit = all-at-most-cycle g ss free;
-    }
 
 -- rows whose first n stairs are all the stairs of the slots
 module _ (g : Gate) (ss : List Slot) (far tot : List ℕ) (n : ℕ)

@@ -1,8 +1,4 @@
 pub mod Rows
-pub mod Keys
-pub mod Tree
-pub mod HeadRow
-pub mod Turns
 pub mod Stored
 pub mod Halving
 pub mod Demand

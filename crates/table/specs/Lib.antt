@@ -1,4 +1,2 @@
 pub mod Rows
-pub mod Heads
-pub mod Tree
 pub mod Lookup

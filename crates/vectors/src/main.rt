@@ -1,6 +1,4 @@
 // Prints the findings of each plan that its arguments name, behind a line with the name.
-ghost use mathlib.Core.Path.{_≡_};
-ghost use lib.ListN.{length};
 use libc::STDOUT_FILENO;
 
 // The findings of the file, from its first 4,096 octets.

@@ -13,8 +13,8 @@ use Rattle.meaning.specs.Runs.{hasFree, runs}
 use Rattle.meaning.specs.Promises.{Chain}
 use Rattle.gate.specs.declared.RunRow.{RunRow}
 use Rattle.gate.specs.Rows.{GateFits, noRun, runRow}
-use Rattle.table.specs.Rows.{RunsFit}
-use Rattle.table.proofs.Demand.{slots-fit}
+use Rattle.stairs.specs.Rows.{RunsFit}
+use Rattle.stairs.proofs.Rows.{slots-fit}
 
 module _ (g : Gate) (slots : List Slot) (n : ℕ) (few : n ≤ 32) (fits : GateFits g)
     (links : Chain 0 (take n slots) (g .cycle)) (free : hasFree g (take n slots) ≡ true)

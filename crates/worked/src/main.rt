@@ -1,5 +1,4 @@
 // Prints the runs and the stairs of plan F, and of the worked example of document 000, Table I, scaled by 1,000.
-ghost use mathlib.Core.Bool.{true};
 ghost use mathlib.Core.List.{[], _∷_};
 ghost use mathlib.Core.Path.{_≡_};
 ghost use Prim.Native.Nat.{_≤_};
@@ -58,7 +57,7 @@ fn show(g: Gate, slots: [Slot; 32], n: usize)
         let r = gate::find_runs(g, slots, n);
         show_runs(r);
         let row = r.row;
-        show_stairs(table::build(g.cycle, row, r.n));
+        show_stairs(stairs::build(g.cycle, row, r.n));
     }
 }
 

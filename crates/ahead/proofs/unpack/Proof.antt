@@ -11,8 +11,6 @@ use Rattle.ahead.proofs.Unpacking.{unpack-ahead, unpack-lower}
 use borrow.Author.Needs.{needs}
 use Rattle.ahead.proofs.unpack.Statement.{statement}
 use Rattle.ahead.proofs.unpack.Tie as tie
-use Rattle.ahead.proofs.unpack.Reads as reads
-use Rattle.ahead.proofs.unpack.Lts as lts
 use Rattle.ahead.proofs.larger.Reads as larger-reads
 use Rattle.ahead.proofs.wire_of.Reads as wire-of-reads
 

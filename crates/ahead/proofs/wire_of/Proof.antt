@@ -9,8 +9,6 @@ use Rattle.ahead.proofs.Rated.{wire-fits, wire-unknown}
 use borrow.Author.Needs.{needs}
 use Rattle.ahead.proofs.wire_of.Statement.{statement}
 use Rattle.ahead.proofs.wire_of.Tie as tie
-use Rattle.ahead.proofs.wire_of.Reads as reads
-use Rattle.ahead.proofs.wire_of.Lts as lts
 use Rattle.wire.proofs.wire_time.Reads as wire-time-reads
 
 wire-time-requires : tie.Need-wire-time-requires

@@ -6,7 +6,7 @@ use Rattle.meaning.specs.declared.Port.{Port}
 use Rattle.meaning.specs.declared.Stream.{Stream}
 use Rattle.meaning.specs.Refusals.{Answer}
 use Rattle.meaning.specs.Desks.{Desk as Plan}
-use Rattle.meaning.specs.Calls.{openPort, addSlot, addStream}
+use Rattle.meaning.specs.Calls.{openPort, addStream}
 use Rattle.meaning.specs.Bytes.{edit}
 use Rattle.entries.specs.declared.Entries.{Entries}
 use Rattle.entries.specs.declared.EntriesReply.{EntriesReply}

@@ -3,8 +3,6 @@ use Rattle.wire.specs.Timing.{timed}
 use Rattle.wire.proofs.Rates.{listed, unlisted}
 use Rattle.wire.proofs.ten_octets.Statement.{statement}
 use Rattle.wire.proofs.ten_octets.Tie as tie
-use Rattle.wire.proofs.ten_octets.Reads as reads
-use Rattle.wire.proofs.ten_octets.Lts as lts
 
 -- src/lib.rt:16:1
 returns : tie.Need-returns

@@ -5,8 +5,6 @@ use Rattle.wire.proofs.Rates.{product-fits, wire-is, unknown-time}
 use borrow.Author.Needs.{needs}
 use Rattle.wire.proofs.wire_time.Statement.{statement}
 use Rattle.wire.proofs.wire_time.Tie as tie
-use Rattle.wire.proofs.wire_time.Reads as reads
-use Rattle.wire.proofs.wire_time.Lts as lts
 use Rattle.wire.proofs.ten_octets.Reads as ten-octets-reads
 
 -- src/lib.rt:33:9

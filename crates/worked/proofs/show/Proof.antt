@@ -7,8 +7,9 @@ use native.Mathlib.Omega.{arith}
 use lib.ListN.{take}
 use Rattle.meaning.specs.Runs.{hasFree}
 use Rattle.table.specs.declared.Table.{Table}
-use Rattle.table.specs.Rows.{RunsFit, tableOf}
-use Rattle.table.proofs.Turns.{few-stairs}
+use Rattle.table.specs.Rows.{tableOf}
+use Rattle.stairs.specs.Rows.{RunsFit}
+use Rattle.stairs.proofs.Turns.{few-stairs}
 use Rattle.worked.proofs.Shown.{found-few, found-fits}
 use borrow.Author.Needs.{needs}
 use Rattle.worked.proofs.show.Statement.{statement}
