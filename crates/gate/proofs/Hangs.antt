@@ -31,6 +31,10 @@ pub record Held (g : Gate) (l : List Slot) (n : ℕ) : Type 0 where
   pub fits : n ≤ length l
   pub chain : Chain 0 (take n l) (g .cycle)
 
+pub hold : {g : Gate} {l : List Slot} {n : ℕ} → 1 ≤ n → n ≤ 32 → length l ≡ 32 → Chain 0 (take n l) (g .cycle)
+    → Held g l n
+hold some few long ok = record { some = some; fits = omega arith; chain = ok }
+
 -- ---- where slots lie
 
 -- a slot of a chain, and the chain behind it
@@ -114,6 +118,10 @@ hangs-drop k (suc i) (s ∷ ss) = hangs-drop k i ss
 pub record Stopping (g : Gate) (l : List Slot) (n : ℕ) (a : List ℕ) : Type 0 where
   pub fits : n ≤ length a
   pub stops : take n a ≡ hangEnds (reachOf g) (take n l)
+
+pub stop-all : {g : Gate} {l : List Slot} {n : ℕ} {a : List ℕ} → n ≤ 32 → length a ≡ 32
+    → take n a ≡ hangEnds (reachOf g) (take n l) → Stopping g l n a
+stop-all few long e = record { fits = omega arith; stops = e }
 
 module _ {g : Gate} {l : List Slot} {n : ℕ} {a : List ℕ} (held : Held g l n) (ends : Stopping g l n a) (i : ℕ)
     (h : i < n) where

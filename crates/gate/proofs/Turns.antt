@@ -5,7 +5,7 @@ use mathlib.Core.Bool.{Bool, true, false, cond}
 use mathlib.Core.List.{List, [], _∷_, _++_, append-nil}
 use Prim.Native.Nat.{ℕ, suc, _+_, _-_, _≤_, _<_, zero-le}
 use native.Mathlib.Omega.{arith}
-use lib.ListN.{length, getD, take, drop, length-drop}
+use lib.ListN.{length, getD, take, drop, set, length-drop}
 use lib.Seq.{length-take-le, getD-take}
 use lib.Dec.{ltb}
 use borrow.Author.Tests.{lt-ltb, le-ltb}
@@ -17,6 +17,10 @@ use Rattle.meaning.specs.Promises.{Chain}
 use Rattle.meaning.proofs.Chains.{lastEnd, hangEnd}
 use Rattle.meaning.proofs.ChainCells.{reachOf}
 use Rattle.gate.specs.Walks.{firstStart, firstHang, runWith, runIf, walked}
+use Rattle.gate.specs.declared.RunRow.{RunRow}
+use Rattle.gate.specs.Rows.{noRun, runRow}
+use Rattle.laws.proofs.Filling.{Filling, filling-put, filling-skip}
+use Rattle.gate.proofs.Rows.{row-count, row-more}
 use Rattle.gate.proofs.Places.{rest-cons, rest-none}
 use Rattle.gate.proofs.Walks.{has-one, runs-walked, free-walked}
 use Rattle.gate.proofs.Hangs.{noSlot, slotAt, Held, Stopping, stop-is}
@@ -64,17 +68,24 @@ module _ {g : Gate} {l : List Slot} {n : ℕ} (held : Held g l n) where
   wide-is before i e h q w = rw (rest-cons l n i noSlot h (held .fits), lt-ltb _ _ w, q)
 
   -- it has none
-  pub left-narrow : (before i : ℕ) → i < n → slotAt l i .start + g .cycle ≤ before + reachOf g
+  left-narrow : (before i : ℕ) → i < n → slotAt l i .start + g .cycle ≤ before + reachOf g
       → left g l n before i ≡ left g l n (slotAt l i .end + g .cycle) (i + 1)
   unfolding walked runIf
   left-narrow before i h w = rw (rest-cons l n i noSlot h (held .fits), le-ltb _ _ w)
+
+  -- a loop that has put m runs into the row puts none
+  pub turn-narrow : {row row′ : List Run} {m m′ : ℕ} {whole : List Run} (before i : ℕ) → i < n → m ≤ i
+      → Filling 32 noRun row m (left g l n before i) whole → slotAt l i .start + g .cycle ≤ before + reachOf g
+      → row′ ≡ row → m′ ≡ m
+      → (m′ ≤ i + 1) × Filling 32 noRun row′ m′ (left g l n (slotAt l i .end + g .cycle) (i + 1)) whole
+  turn-narrow before i h k f w p q = (omega (arith, k, q), rw (p, q) (filling-skip f (left-narrow before i h w)))
 
   pub left-none : (before i : ℕ) → n ≤ i → left g l n before i ≡ []
   unfolding walked
   left-none before i h = rw (rest-none l n i h (held .fits))
 
   -- no more runs than slots
-  pub left-few : (before i : ℕ) → length (left g l n before i) ≤ n - i
+  left-few : (before i : ℕ) → length (left g l n before i) ≤ n - i
   left-few before i =
       omega (
         arith,
@@ -82,6 +93,13 @@ module _ {g : Gate} {l : List Slot} {n : ℕ} (held : Held g l n) where
         length-drop i (take n l),
         length-take-le n l (held .fits),
       )
+
+  -- a place is left for the first slot's, behind those of the others
+  others-few : (before : ℕ) → n ≤ 32 → length (left g l n before 1) < 32
+  others-few before h = omega (arith, left-few before 1)
+
+  pub others-place : (before : ℕ) {row : RunRow} → n ≤ 32 → row ≡ runRow (left g l n before 1) → row .n < 32
+  others-place before h e = rw (row-count (left g l n before 1) e) (others-few before h)
 
   -- the same three cases, of whether some are left
   pub some-wide : (before i : ℕ) → i < n → before + reachOf g < slotAt l i .start + g .cycle
@@ -132,20 +150,29 @@ module _ {g : Gate} {l : List Slot} {n : ℕ} (held : Held g l n) where
   both = rw (last-end, ← whole-is) at (runs-walked g (slotAt l 0) (drop 1 (take n l)) line)
 
   -- the guard of the first slot does not reach back over the cycle's end
-  pub runs-plain : g .guard ≤ slotAt l 0 .start → runs g (take n l) ≡ left g l n (slotAt l (n - 1) .end) 0
+  runs-plain : g .guard ≤ slotAt l 0 .start → runs g (take n l) ≡ left g l n (slotAt l (n - 1) .end) 0
   runs-plain h = rw (both, le-ltb (slotAt l 0 .start) (g .guard) h)
 
+  pub row-plain : {row : RunRow} → row ≡ runRow (left g l n (slotAt l (n - 1) .end) 0)
+      → g .guard ≤ slotAt l 0 .start → row ≡ runRow (runs g (take n l))
+  row-plain e h = e ∙ ap runRow (sym (runs-plain h))
+
   -- it does, and the first slot, one cycle on, hangs on the last
-  pub runs-hung : slotAt l 0 .start < g .guard → slotAt l 0 .start + g .cycle ≤ slotAt l (n - 1) .end + reachOf g
+  runs-hung : slotAt l 0 .start < g .guard → slotAt l 0 .start + g .cycle ≤ slotAt l (n - 1) .end + reachOf g
       → runs g (take n l) ≡ left g l n (slotAt l 0 .end + g .cycle) 1
   unfolding runIf
   runs-hung h w = rw (both, lt-ltb (slotAt l 0 .start) (g .guard) h, le-ltb _ _ w, append-nil)
+
+  pub row-hung : {row : RunRow} → row ≡ runRow (left g l n (slotAt l 0 .end + g .cycle) 1)
+      → slotAt l 0 .start < g .guard → slotAt l 0 .start + g .cycle ≤ slotAt l (n - 1) .end + reachOf g
+      → row ≡ runRow (runs g (take n l))
+  row-hung e h w = e ∙ ap runRow (sym (runs-hung h w))
 
   -- ---- with the ends filled in
 
   module _ {a : List ℕ} (ends : Stopping g l n a) where
     -- slot i has a run of its own
-    pub left-wide : (before i : ℕ) → i < n → before + reachOf g < slotAt l i .start + g .cycle
+    left-wide : (before i : ℕ) → i < n → before + reachOf g < slotAt l i .start + g .cycle
         → left g l n before i
         ≡ runWith g (slotAt l 0 .start) (getD a 0 0) (slotAt l i) (getD a i 0)
         ∷ left g l n (slotAt l i .end + g .cycle) (i + 1)
@@ -153,8 +180,18 @@ module _ {g : Gate} {l : List Slot} {n : ℕ} (held : Held g l n) where
         wide-is before i (getD a i 0) h (stop-is held ends i h) w
         ∙ rw (first-start, first-hang ∙ sym (stop-is held ends 0 (held .some)))
 
+    -- a loop that has put m runs into the row puts it there
+    pub turn-wide : {row row′ : List Run} {m m′ : ℕ} {r : Run} {whole : List Run} (before i : ℕ) → i < n → n ≤ 32
+        → m ≤ i → Filling 32 noRun row m (left g l n before i) whole
+        → before + reachOf g < slotAt l i .start + g .cycle
+        → r ≡ runWith g (slotAt l 0 .start) (getD a 0 0) (slotAt l i) (getD a i 0)
+        → row′ ≡ set row m r → m′ ≡ m + 1
+        → (m′ ≤ i + 1) × Filling 32 noRun row′ m′ (left g l n (slotAt l i .end + g .cycle) (i + 1)) whole
+    turn-wide before i h few k f w x p q =
+        (omega (arith, k, q), rw (p, q) (filling-put f (left-wide before i h w) x (omega (arith, h, few, k))))
+
     -- the guard of the first slot reaches back over the cycle's end, and its run comes last
-    pub runs-across : slotAt l 0 .start < g .guard → slotAt l (n - 1) .end + reachOf g < slotAt l 0 .start + g .cycle
+    runs-across : slotAt l 0 .start < g .guard → slotAt l (n - 1) .end + reachOf g < slotAt l 0 .start + g .cycle
         → runs g (take n l)
         ≡ left g l n (slotAt l 0 .end + g .cycle) 1
         ++ runWith g (slotAt l 0 .start) (getD a 0 0) (slotAt l 0) (getD a 0 0) ∷ []
@@ -162,3 +199,11 @@ module _ {g : Gate} {l : List Slot} {n : ℕ} (held : Held g l n) where
     runs-across h w =
         rw (both, lt-ltb (slotAt l 0 .start) (g .guard) h, lt-ltb _ _ w, first-start, first-hang)
         (rw (stop-is held ends 0 (held .some)))
+
+    pub row-across : {row : RunRow} {r : Run} → n ≤ 32 → row ≡ runRow (left g l n (slotAt l 0 .end + g .cycle) 1)
+        → r ≡ runWith g (slotAt l 0 .start) (getD a 0 0) (slotAt l 0) (getD a 0 0)
+        → slotAt l 0 .start < g .guard → slotAt l (n - 1) .end + reachOf g < slotAt l 0 .start + g .cycle
+        → record { n = row .n + 1; row = set (row .row) (row .n) r } ≡ runRow (runs g (take n l))
+    row-across few e q h w =
+        row-more (left g l n (slotAt l 0 .end + g .cycle) 1) e q (others-few (slotAt l 0 .end + g .cycle) few)
+        ∙ ap runRow (sym (runs-across h w))

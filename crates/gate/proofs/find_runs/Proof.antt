@@ -1,56 +1,49 @@
 -- `gate::find_runs` meets its contract: the runs behind the first slot, and its own last where its guard reaches
 -- back over the cycle's end.
 -- Assumes nothing.
-use mathlib.Core.Path.{_≡_, sym, ap, _∙_}
-use mathlib.Core.List.{List}
+use mathlib.Core.Path.{sym, ap, _∙_}
 use Prim.Native.Nat.{ℕ, _+_, _-_, _≤_, _<_, zero-le}
-use native.Mathlib.Nat.{le-refl}
-use native.Mathlib.Omega.{arith}
-use lib.ListN.{length, getD, take}
-use Rattle.meaning.specs.declared.Run.{Run}
+use native.Mathlib.Nat.{le-refl, le-trans}
+use lib.ListN.{getD, take}
 use Rattle.meaning.specs.Runs.{runs}
+use Rattle.meaning.proofs.ChainCells.{reachOf}
 use Rattle.gate.specs.Rows.{runRow}
-use Rattle.gate.proofs.Rows.{row-none, row-count, row-more}
+use Rattle.gate.proofs.Numbers.{
+  reach-fits,
+  round-fits,
+  far-fits,
+  slot-fits,
+  next-fits,
+  some-in,
+  last-in,
+  last-place,
+  start-in,
+  end-in,
+  twice,
+  guard-in,
+}
+use Rattle.gate.proofs.Rows.{row-none}
 use Rattle.gate.proofs.Walks.{runs-none}
-use Rattle.gate.proofs.Hangs.{slotAt, Held, Stopping, slot-in, stop-in}
-use Rattle.gate.proofs.Turns.{left, left-few, runs-plain, runs-hung, runs-across}
+use Rattle.gate.proofs.Hangs.{slotAt, Held, hold, slot-in, Stopping, stop-all, stop-in}
+use Rattle.gate.proofs.Turns.{others-place, row-plain, row-hung, row-across}
 use borrow.Author.Needs.{needs}
 use Rattle.gate.proofs.find_runs.Statement.{statement}
 use Rattle.gate.proofs.find_runs.Tie as tie
 
--- ---- numbers, apart from the places of the code: there omega would read all that is known
-
-last-in : {n : ℕ} → 1 ≤ n → n - 1 < n
-last-in h = omega arith
-
-start-in : {start end stop n : ℕ} → start < end → end ≤ stop → stop ≤ n → start ≤ n
-start-in a b c = omega arith
-
-end-in : {end stop n : ℕ} → end ≤ stop → stop ≤ n → end + n ≤ n + n
-end-in a b = omega arith
-
-twice : {end n : ℕ} → end ≤ n → end ≤ n + n
-twice h = omega arith
-
--- ---- places
-
 held : (c : tie.Else1) → Held (c .before .args .g) (c .before .args .t2) (c .before .args .n)
-held c =
-    let l : length (c .before .args .t2) ≡ 32 = search needs in
-    record { some = omega arith; fits = omega arith; chain = c .before .pre .2 }
+held c = let p = c .before .pre in hold (some-in (c .if1 .left)) (p .0) (search needs) (p .2)
 
 stopping : (c : tie.After-hang-ends)
     → let a = c .before .before .before .args in Stopping (a .g) (a .t2) (a .n) (c .hang-ends .result)
-stopping c =
-    let l : length (c .hang-ends .result) ≡ 32 = search needs in
-    record { fits = omega arith; stops = c .hang-ends .ensures }
+stopping c = stop-all (c .before .before .before .pre .0) (search needs) (c .hang-ends .ensures)
 
 -- the first slot, where those that hang together with it stop, and the last slot
 inside : (c : tie.After-hang-ends)
     → let a = c .before .before .before .args in
     let s = slotAt (a .t2) 0 in
     let e = getD (c .hang-ends .result) 0 0 in
-    (1 ≤ a .n) × (s .start < s .end) × (s .end ≤ e) × (e ≤ a .g .cycle) × (slotAt (a .t2) (a .n - 1) .end ≤ a .g .cycle)
+    (1 ≤ a .n) × (s .start < s .end) × (s .end ≤ e) × (e ≤ a .g .cycle)
+    × (slotAt (a .t2) (a .n - 1) .end ≤ a .g .cycle)
 inside c =
     let h = held (c .before .before) in
     let (x, y, z) = stop-in h (stopping c) 0 (h .some) in
@@ -63,20 +56,24 @@ hung c = c .before .before .before .before .before .before .before
 abbrev found : tie.After-struct-known8 → tie.After-runs-from2
 found c = c .before .before .before
 
--- those runs
-abbrev rest : tie.After-struct-known8 → List Run
-rest c =
-    let a = hung (found c .before) .before .before .before .args in
-    left (a .g) (a .t2) (a .n) (slotAt (a .t2) 0 .end + a .g .cycle) 1
-
--- no more than the slots behind the first, so that one more has a place
-few : (c : tie.After-struct-known8) → (found c .runs-from2 .result .n < 32) × (length (rest c) < 32)
-few c =
+-- a place is left for one run more
+place : (c : tie.After-struct-known8) → found c .runs-from2 .result .n < 32
+place c =
     let h = hung (found c .before) in
-    let a = h .before .before .before .args in
-    let m = left-few (held (h .before .before)) (slotAt (a .t2) 0 .end + a .g .cycle) 1 in
-    let e = row-count (rest c) (found c .runs-from2 .ensures) in
-    (omega arith, omega arith)
+    let s = h .before .before .before in
+    others-place (held (h .before .before)) (slotAt (s .args .t2) 0 .end + s .args .g .cycle) (s .pre .0)
+    (found c .runs-from2 .ensures)
+
+-- what the test on the first slot, one cycle on, says: it hangs on the last one, or the gap is wide
+hangs-on : (c : tie.Then3)
+    → let a = hung (found (c .before) .before) .before .before .before .args in
+    slotAt (a .t2) 0 .start + a .g .cycle ≤ slotAt (a .t2) (a .n - 1) .end + reachOf (a .g)
+hangs-on c = c .if3 .taken
+
+apart : (c : tie.Else3)
+    → let a = hung (found (c .before) .before) .before .before .before .args in
+    slotAt (a .t2) (a .n - 1) .end + reachOf (a .g) < slotAt (a .t2) 0 .start + a .g .cycle
+apart c = c .if3 .left
 
 returns : tie.Need-returns
 returns c =
@@ -84,22 +81,28 @@ returns c =
     row-none ∙ ap runRow (sym (ap (λ (k : ℕ). runs (a .g) (take k (a .t2))) (c .if1 .taken) ∙ runs-none (a .g)))
 
 add-reach : tie.Need-add-reach
-add-reach c = search needs
+add-reach c = reach-fits (c .before .before .pre .1)
 
 hang-ends-requires : tie.Need-hang-ends-requires
-hang-ends-requires c κs = search needs
+hang-ends-requires c κs =
+    let p = c .before .before .pre in
+    (some-in (c .before .if1 .left), p .0, p .1, p .2)
 
 array-copy-out-first : tie.Need-array-copy-out-first
 array-copy-out-first c = search needs
 
 sub-last : tie.Need-sub-last
-sub-last c = search needs
+sub-last c = some-in (c .before .before .before .if1 .left)
 
 mul-last : tie.Need-mul-last
-mul-last c = search needs
+mul-last c =
+    let e = c .before .before .before in
+    slot-fits (last-place (some-in (e .if1 .left)) (e .before .pre .0))
 
 array-copy-out-last : tie.Need-array-copy-out-last
-array-copy-out-last c = search needs
+array-copy-out-last c =
+    let e = c .before .before .before in
+    last-place (some-in (e .if1 .left)) (e .before .pre .0)
 
 runs-from-requires : tie.Need-runs-from-requires
 runs-from-requires c κs =
@@ -110,11 +113,13 @@ runs-from-requires c κs =
 
 returns-2 : tie.Need-returns-2
 returns-2 c =
-    let h = held (c .before .before .before .before .before .before .before .before) in
-    c .runs-from .ensures ∙ ap runRow (sym (runs-plain h (c .before .if2 .taken)))
+    row-plain (held (c .before .before .before .before .before .before .before .before)) (c .runs-from .ensures)
+    (c .before .if2 .taken)
 
 add-runs-from : tie.Need-add-runs-from
-add-runs-from c = let i = inside (hung c) in omega arith
+add-runs-from c =
+    let i = inside (hung c) in
+    round-fits (hung c .before .before .before .pre .1) (le-trans (i .2) (i .3))
 
 runs-from-requires-2 : tie.Need-runs-from-requires-2
 runs-from-requires-2 c κs =
@@ -124,16 +129,21 @@ runs-from-requires-2 c κs =
     (i .0, s .pre .0, s .pre .1, s .pre .2, h .hang-ends .ensures, i .0, end-in (i .2) (i .3))
 
 add-if3 : tie.Need-add-if3
-add-if3 c = let i = inside (hung (c .before .before .before)) in omega arith
+add-if3 c =
+    let h = hung (c .before .before .before) in
+    let i = inside h in
+    round-fits (h .before .before .before .pre .1) (start-in (i .1) (i .2) (i .3))
 
 add-if3-2 : tie.Need-add-if3-2
-add-if3-2 c = let i = inside (hung (found c .before)) in omega arith
+add-if3-2 c =
+    let h = hung (found c .before) in
+    far-fits (h .before .before .before .pre .1) (twice (inside h .4))
 
 returns-3 : tie.Need-returns-3
 returns-3 c =
     let f = found (c .before) in
-    let h = held (hung (f .before) .before .before) in
-    f .runs-from2 .ensures ∙ ap runRow (sym (runs-hung h (f .before .before .before .if2 .left) (c .if3 .taken)))
+    row-hung (held (hung (f .before) .before .before)) (f .runs-from2 .ensures) (f .before .before .before .if2 .left)
+    (hangs-on c)
 
 array-read-far : tie.Need-array-read-far
 array-read-far c = search needs
@@ -141,35 +151,32 @@ array-read-far c = search needs
 run-with-requires : tie.Need-run-with-requires
 run-with-requires c κs =
     let h = hung (found (c .before .before) .before) in
-    let (_, x, y, z, _) = inside h in
-    let a = h .before .before .before in (
-      a .pre .1,
-      start-in x y z,
-      z,
-      z,
-      start-in x y (le-refl _),
-      omega (arith, c .before .if3 .left),
+    let s = h .before .before .before in
+    let i = inside h in
+    let stop = i .3 in (
+      s .pre .1,
+      start-in (i .1) (i .2) stop,
+      stop,
+      stop,
+      start-in (i .1) (i .2) (le-refl _),
+      guard-in (s .args .g) (slotAt (s .args .t2) (s .args .n - 1) .end) (apart (c .before)),
     )
 
 mul-row : tie.Need-mul-row
-mul-row c = let m = few (c .before .before .before) in omega arith
+mul-row c = slot-fits (place (c .before .before .before))
 
 array-set-from-row : tie.Need-array-set-from-row
-array-set-from-row c = few (c .before .before .before) .0
+array-set-from-row c = place (c .before .before .before)
 
 add-t22 : tie.Need-add-t22
-add-t22 c = let m = few (c .before .before .before) in omega arith
+add-t22 c = next-fits (place (c .before .before .before))
 
 returns-4 : tie.Need-returns-4
 returns-4 c =
-    let k = c .before .before .before in
-    let f = found k in
+    let f = found (c .before .before .before) in
     let h = hung (f .before) in
-    row-more (rest k) (f .runs-from2 .ensures) (c .run-with .ensures) (few k .1)
-    ∙ ap runRow
-    (sym
-    (runs-across (held (h .before .before)) (stopping h) (f .before .before .before .if2 .left)
-    (c .before .before .if3 .left)))
+    row-across (held (h .before .before)) (stopping h) (h .before .before .before .pre .0) (f .runs-from2 .ensures)
+    (c .run-with .ensures) (f .before .before .before .if2 .left) (apart (c .before .before))
 
 pub find-runs-spec : {M : Type 1} → statement M
 find-runs-spec =

@@ -2,11 +2,27 @@
 -- Assumes nothing.
 use mathlib.Core.Path.{_≡_, sym, ap, _∙_}
 use Prim.Native.Nat.{ℕ, _+_, _-_, _≤_, _<_, zero-le}
-use native.Mathlib.Omega.{arith}
-use lib.ListN.{length, take}
+use native.Mathlib.Nat.{le-refl}
+use lib.ListN.{take}
 use Rattle.meaning.specs.Runs.{hasFree}
+use Rattle.gate.proofs.Numbers.{
+  reach-fits,
+  round-fits,
+  far-fits,
+  slot-fits,
+  next-fits,
+  some-in,
+  place-in,
+  last-in,
+  last-place,
+  next-in,
+  less-left,
+  start-in,
+  end-in,
+  twice,
+}
 use Rattle.gate.proofs.Walks.{free-none}
-use Rattle.gate.proofs.Hangs.{slotAt, Held, slot-in}
+use Rattle.gate.proofs.Hangs.{slotAt, Held, hold, slot-in}
 use Rattle.gate.proofs.Turns.{someLeft, some-start, some-wide, some-narrow, some-none}
 use borrow.Author.Needs.{needs}
 use Rattle.gate.proofs.some_free.Statement.{statement}
@@ -19,26 +35,8 @@ Inv-loop g n slots reach before₀ i₀ before i =
 abbrev μ-loop : tie.MeasureT-loop
 μ-loop g n slots reach before₀ i₀ before i = n - i
 
--- ---- numbers, apart from the places of the code: there omega would read all that is known
-
-next-in : {i n : ℕ} → i < n → i + 1 ≤ n
-next-in h = omega arith
-
-end-in : {end n : ℕ} → end ≤ n → end + n ≤ n + n
-end-in h = omega arith
-
-last-in : {n : ℕ} → 1 ≤ n → n - 1 < n
-last-in h = omega arith
-
-twice : {end n : ℕ} → end ≤ n → end ≤ n + n
-twice h = omega arith
-
--- ---- places
-
 held : (c : tie.Else1 Inv-loop μ-loop) → Held (c .before .args .g) (c .before .args .t2) (c .before .args .n)
-held c =
-    let l : length (c .before .args .t2) ≡ 32 = search needs in
-    record { some = omega arith; fits = omega arith; chain = c .before .pre .2 }
+held c = let p = c .before .pre in hold (some-in (c .if1 .left)) (p .0) (search needs) (p .2)
 
 -- the slot of this turn
 inside : (c : tie.In-loop Inv-loop μ-loop)
@@ -46,6 +44,17 @@ inside : (c : tie.In-loop Inv-loop μ-loop)
     let s = slotAt (a .t2) (c .before .loop .i) in
     (s .start < s .end) × (s .end ≤ a .g .cycle)
 inside c = slot-in (held (c .before .before .before .before)) (c .before .loop .i) (c .loop-test .taken)
+
+-- the last slot's place, and that of this turn's
+last : (c : tie.Else1 Inv-loop μ-loop) → c .before .args .n - 1 < 32
+last c = last-place (some-in (c .if1 .left)) (c .before .pre .0)
+
+place : (c : tie.In-loop Inv-loop μ-loop) → c .before .loop .i < 32
+place c = place-in (c .loop-test .taken) (c .before .before .before .before .before .pre .0)
+
+-- the turn's start, from its end
+abbrev turned : tie.After-struct-known5 Inv-loop μ-loop → tie.In-loop Inv-loop μ-loop
+turned c = c .before .before .before .before .before .before
 
 returns : tie.Need-returns Inv-loop μ-loop
 returns c =
@@ -55,16 +64,16 @@ returns c =
     ∙ free-none (a .g) (c .before .pre .1 .cycle-least))
 
 add-reach : tie.Need-add-reach Inv-loop μ-loop
-add-reach c = search needs
+add-reach c = reach-fits (c .before .before .pre .1)
 
 sub-last : tie.Need-sub-last Inv-loop μ-loop
-sub-last c = search needs
+sub-last c = some-in (c .before .if1 .left)
 
 mul-last : tie.Need-mul-last Inv-loop μ-loop
-mul-last c = search needs
+mul-last c = slot-fits (last (c .before))
 
 array-copy-out-last : tie.Need-array-copy-out-last Inv-loop μ-loop
-array-copy-out-last c = search needs
+array-copy-out-last c = last (c .before)
 
 loop-holds : tie.Need-loop-holds Inv-loop μ-loop
 loop-holds c =
@@ -73,16 +82,21 @@ loop-holds c =
     (zero-le, twice (last .1), some-start h)
 
 mul-s : tie.Need-mul-s Inv-loop μ-loop
-mul-s c = search needs
+mul-s c = slot-fits (place c)
 
 array-copy-out-s : tie.Need-array-copy-out-s Inv-loop μ-loop
-array-copy-out-s c = search needs
+array-copy-out-s c = place c
 
 add-if2 : tie.Need-add-if2 Inv-loop μ-loop
-add-if2 c = search needs
+add-if2 c =
+    let k = c .before .before in
+    far-fits (k .before .before .before .before .pre .1) (k .loop .inv .1)
 
 add-if2-2 : tie.Need-add-if2-2 Inv-loop μ-loop
-add-if2-2 c = let s = inside (c .before .before .before) in omega arith
+add-if2-2 c =
+    let h = c .before .before .before in
+    let i = inside h in
+    round-fits (h .before .before .before .before .before .pre .1) (start-in (i .0) (i .1) (le-refl _))
 
 returns-2 : tie.Need-returns-2 Inv-loop μ-loop
 returns-2 c =
@@ -93,13 +107,14 @@ returns-2 c =
     (c .before .before .before .before .loop-test .taken) (c .if2 .taken))
 
 add-before : tie.Need-add-before Inv-loop μ-loop
-add-before c = let s = inside (c .before .before .before .before .before .before) in omega arith
+add-before c =
+    round-fits (turned c .before .before .before .before .before .pre .1) (inside (turned c) .1)
 
 add-i : tie.Need-add-i Inv-loop μ-loop
-add-i c = search needs
+add-i c = next-fits (place (turned c))
 
 loop-less : tie.Need-loop-less Inv-loop μ-loop
-loop-less c = search needs
+loop-less c = less-left (turned c .loop-test .taken)
 
 loop-again : tie.Need-loop-again Inv-loop μ-loop
 loop-again c =
@@ -107,7 +122,7 @@ loop-again c =
     let k = b .before .before .before .before .before in
     let h = b .before .before .before .before in (
       next-in (h .loop-test .taken),
-      end-in (inside h .1),
+      end-in (inside h .1) (le-refl _),
       k .loop .inv .2
           ∙ some-narrow (held (k .before .before .before)) (k .loop .before) (k .loop .i) (h .loop-test .taken)
           (b .if2 .left),
