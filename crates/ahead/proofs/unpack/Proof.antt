@@ -1,4 +1,4 @@
--- `unpack` meets its contract: the rows are those of the places passed, all but the one that is left out.
+-- `ahead::unpack` meets its contract: the rows are those of the places passed, all but the one that is left out.
 -- Assumes nothing.
 use mathlib.Core.Path.{_≡_, _∙_}
 use mathlib.Core.Logic.{⊎-elim}

@@ -1,4 +1,4 @@
--- `wire_of` meets its contract: the wire time that was answered fits, and is 0 where the rate was refused.
+-- `ahead::wire_of` meets its contract: the wire time that was answered fits, and is 0 where the rate was refused.
 -- Assumes nothing.
 use mathlib.Core.Path.{_≡_, sym, _∙_}
 use Prim.Native.Nat.{_≤_}

@@ -1,4 +1,4 @@
--- `desk::interference` meets its contract: the stairs stored in a fit open desk give V, and t is at most the horizon.
+-- `questions::interference` meets its contract: the stairs of a fit open desk give V, up to the horizon.
 -- Assumes nothing.
 use borrow.Author.Needs.{needs}
 use Rattle.meaning.specs.Ranges.{horizon}

@@ -1,4 +1,4 @@
--- `desk::runs` meets its contract: the gate numbers and the slots of a fit open desk may be handed to `find_runs`.
+-- `questions::runs` meets its contract: the gate numbers and the slots of a fit open desk may be handed to `find_runs`.
 -- Assumes nothing.
 use borrow.Author.Needs.{needs}
 use Rattle.meaning.specs.Runs.{gateOf}

@@ -1,4 +1,4 @@
--- `desk::stairs` meets its contract: the stairs stored in a fit open desk are those of its slots.
+-- `questions::stairs` meets its contract: the stairs stored in a fit open desk are those of its slots.
 -- Assumes nothing.
 use Rattle.questions.proofs.Asking.{stairs-closed, stairs-open}
 use Rattle.questions.proofs.stairs.Statement.{statement}

@@ -1,3 +1,5 @@
+-- `stairs::behind` meets its contract: less than two rounds, so one n less at most.
+-- Assumes nothing.
 use mathlib.Core.Path.{sym}
 use native.Mathlib.Nat.{mod-eq-of-lt}
 use native.Mathlib.Omega.{arith}

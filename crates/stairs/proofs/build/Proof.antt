@@ -1,3 +1,5 @@
+-- `stairs::build` meets its contract: the runs are copied into rows, and the rows merged.
+-- Assumes nothing.
 use mathlib.Core.Path.{_≡_, refl, ap, _∙_}
 use mathlib.Core.List.{List}
 use Prim.Native.Nat.{_-_, _≤_}

@@ -1,3 +1,5 @@
+-- `stairs::distance` meets its contract: onward, or over the cycle's end.
+-- Assumes nothing.
 use mathlib.Core.Path.{sym}
 use native.Mathlib.Omega.{arith}
 use Rattle.laws.proofs.Circle.{dist-up, dist-down}

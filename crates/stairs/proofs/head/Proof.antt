@@ -1,3 +1,5 @@
+-- `stairs::head` meets its contract: the key of the next pair of a row, or of none.
+-- Assumes nothing.
 use native.Mathlib.Omega.{arith}
 use borrow.Author.Needs.{needs}
 use Rattle.stairs.specs.Heads.{done}

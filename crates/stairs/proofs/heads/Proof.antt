@@ -1,3 +1,5 @@
+-- `stairs::heads` meets its contract: each row's first pair goes to its leaf.
+-- Assumes nothing.
 use mathlib.Core.Path.{_≡_, refl}
 use Prim.Native.Nat.{_-_, _≤_, _<_}
 use native.Mathlib.Omega.{arith}

@@ -1,3 +1,5 @@
+-- `stairs::leaf` meets its contract: distance, total and row in one number.
+-- Assumes nothing.
 use borrow.Author.Needs.{needs}
 use Rattle.stairs.specs.Heads.{keyOf}
 use Rattle.stairs.proofs.leaf.Statement.{statement}

@@ -1,3 +1,5 @@
+-- `stairs::merge_rows` meets its contract: the pairs come by rising key, and those over the last total are stairs.
+-- Assumes nothing.
 use mathlib.Core.Path.{_≡_, refl}
 use mathlib.Core.Logic.{⊎-elim}
 use mathlib.Core.List.{List}

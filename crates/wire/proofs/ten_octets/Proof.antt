@@ -1,3 +1,5 @@
+-- `wire::ten_octets` meets its contract, code by code.
+-- Assumes nothing.
 use Rattle.meaning.specs.Wire.{tenOctets}
 use Rattle.wire.specs.Timing.{timed}
 use Rattle.wire.proofs.Rates.{listed, unlisted}

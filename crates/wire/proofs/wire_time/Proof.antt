@@ -1,3 +1,5 @@
+-- `wire::wire_time` meets its contract: nothing overflows, and the division rounds up.
+-- Assumes nothing.
 use Prim.Native.Nat.{_+_, _*_, _≤_}
 use mathlib.Core.Path.{sym, _∙_}
 use native.Mathlib.Omega.{arith}
