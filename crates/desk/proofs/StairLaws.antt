@@ -22,7 +22,7 @@ use Rattle.meaning.specs.Calls.{openPort, addSlot, removeSlot, addStream, remov
 use Rattle.meaning.specs.Promises.{Chain, Sound}
 use Rattle.meaning.proofs.Refusing.{accepted≢refused}
 use Rattle.meaning.proofs.Conditions.{open-says, add-slot-says, remove-slot-says, add-stream-says, remove-stream-says}
-use Rattle.meaning.proofs.Sounds.{gate-of-streams}
+use Rattle.meaning.proofs.Sounds.{gate-of-streams, gate-chain}
 use Rattle.meaning.proofs.ChainFree.{runs-few}
 use Rattle.meaning.proofs.Gates.{slots-stairway}
 use Rattle.gate.specs.declared.RunRow.{RunRow}
@@ -34,7 +34,7 @@ use Rattle.stairs.proofs.Rows.{slots-fit}
 use Rattle.entries.specs.declared.Entries.{Entries}
 use Rattle.entries.specs.Entries.{filledEntries, entriesOf, heldIn, portIn, slotsIn, streamsIn, gateIn}
 use Rattle.entries.proofs.Opened.{Open}
-use Rattle.entries.proofs.GateLaws.{gate-fits, gate-chain}
+use Rattle.entries.proofs.GateLaws.{gate-fits}
 use Rattle.desk.specs.declared.Desk.{Desk}
 use Rattle.desk.specs.Desks.{filledDesk, deskOf}
 use Rattle.desk.specs.Edits.{withEntries}

@@ -7,6 +7,7 @@ mod streams;
 use answers::Verdict;
 use meaning::Slot;
 use meaning::Stream;
+pub use parts::entries_of;
 pub use parts::with_stairs;
 pub use ports::bare;
 pub use ports::open_port;

@@ -1,15 +1,13 @@
--- The gate numbers in force are in range, and the slots held are a chain in their cycle.
+-- The gate numbers in force are in range.
 -- Assumes nothing.
 use mathlib.Core.Path.{_≡_}
 use mathlib.Core.Bool.{true}
 use mathlib.Core.List.{List}
 use native.Mathlib.Omega.{arith}
 use Rattle.meaning.specs.declared.Port.{Port}
-use Rattle.meaning.specs.declared.Slot.{Slot}
 use Rattle.meaning.specs.declared.Stream.{Stream}
 use Rattle.meaning.specs.Ranges.{portRanges, inRange}
 use Rattle.meaning.specs.Runs.{gateOf}
-use Rattle.meaning.specs.Promises.{Chain}
 use Rattle.meaning.proofs.InRange.{port-in}
 use Rattle.gate.specs.Rows.{GateFits}
 
@@ -24,7 +22,3 @@ module _ (p : Port) (js : List Stream) where
         guard-most = omega arith;
         header-most = omega arith;
       }
-
-  pub gate-chain : (ss : List Slot) → Chain 0 ss (p .cycle) → Chain 0 ss (gateOf p js .cycle)
-  unfolding gateOf
-  gate-chain ss c = c

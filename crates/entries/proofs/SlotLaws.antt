@@ -22,13 +22,13 @@ use Rattle.meaning.specs.Calls.{overlaps, withSlot, addSlot, removeSlot}
 use Rattle.meaning.specs.Promises.{Chain}
 use Rattle.meaning.proofs.InRange.{port-in, slot-in}
 use Rattle.meaning.proofs.Conditions.{AddSlotSays, add-slot-says, remove-slot-says}
-use Rattle.meaning.proofs.Sounds.{chain-insert, chain-rises}
+use Rattle.meaning.proofs.Sounds.{chain-insert, chain-rises, gate-chain}
 use Rattle.rows.specs.Rows.{slotRow, noSlot}
 use Rattle.gate.specs.Rows.{GateFits}
 use Rattle.entries.specs.declared.Entries.{Entries}
 use Rattle.entries.specs.Entries.{entriesOf, heldIn, portIn, slotsIn, streamsIn, gateIn, withSlotRow}
 use Rattle.entries.proofs.Opened.{Open, held-bare, slots-set}
-use Rattle.entries.proofs.GateLaws.{gate-fits, gate-chain}
+use Rattle.entries.proofs.GateLaws.{gate-fits}
 use Rattle.entries.proofs.Places.{PlaceOf, some-held, none-held, left-out}
 
 -- ---- adding

@@ -103,9 +103,17 @@ pub gate-of-streams : (p : Port) (js ks : List Stream) → gateOf p js ≡ gateO
 unfolding gateOf
 gate-of-streams p js ks = refl
 
-pub gate-has-cells : (p : Port) (js : List Stream) → inRange (portRanges p) ≡ true → 0 < gateOf p js .cycle
+-- their cycle is the port's own, so slots that are a chain in the one are a chain in the other
+pub gate-cycle : (p : Port) (js : List Stream) → gateOf p js .cycle ≡ p .cycle
 unfolding gateOf
-gate-has-cells p js r = omega (arith, port-in p .0 r)
+gate-cycle p js = refl
+
+pub gate-chain : (p : Port) (js : List Stream) (ss : List Slot) → Chain 0 ss (p .cycle)
+    → Chain 0 ss (gateOf p js .cycle)
+gate-chain p js ss c = subst (Chain 0 ss) (sym (gate-cycle p js)) c
+
+gate-has-cells : (p : Port) (js : List Stream) → inRange (portRanges p) ≡ true → 0 < gateOf p js .cycle
+gate-has-cells p js r = omega (arith, gate-cycle p js, port-in p .0 r)
 
 -- ---- edits: where one is accepted, the desk handed on is sound
 

@@ -16,7 +16,6 @@ use Rattle.laws.proofs.Without.{mem-get, place-found, place-passes}
 use Rattle.meaning.specs.declared.Stream.{Stream}
 use Rattle.meaning.specs.declared.Refusal.the-variants.{OutOfTurn, NotHeld, Endless, Late}
 use Rattle.meaning.specs.Ranges.{octetLimit}
-use Rattle.meaning.specs.Runs.{gateOf}
 use Rattle.meaning.specs.Interference.{interference}
 use Rattle.meaning.specs.Response.{others, lowerWire, bound}
 use Rattle.meaning.specs.Refusals.{Answer, accepted, refused}
@@ -40,7 +39,7 @@ use Rattle.answers.specs.Answers.{figureOf}
 use Rattle.desk.specs.Desks.{held, Fit, portIn, slotsIn, streamsIn, gateIn}
 use Rattle.questions.specs.Replies.{figureReply}
 use Rattle.questions.specs.Judged.{judgedBy}
-use Rattle.desk.proofs.OpenFits.{OpenFits, open-fits}
+use Rattle.desk.proofs.OpenFits.{same-cycle, OpenFits, open-fits}
 
 -- the test of an id
 abbrev pub hasId : ℕ → Stream → Bool
@@ -101,9 +100,9 @@ module _ (d : Desk) (f : Fit d) (id : ℕ) where
 
     -- V by the stored stairs is V of the slots held
     same-v : tableV (d .cycle) (d .far) (d .tot) (d .nstairs) ≡ interference (gateIn d) (slotsIn d)
-    unfolding gateOf
     same-v =
-        fun-ext (rows-give-interference (gateIn d) (slotsIn d) (d .far) (d .tot) (d .nstairs) (h .stored) (h .count))
+        ap (λ (n : ℕ). tableV n (d .far) (d .tot) (d .nstairs)) (sym (same-cycle d))
+        ∙ fun-ext (rows-give-interference (gateIn d) (slotsIn d) (d .far) (d .tot) (d .nstairs) (h .stored) (h .count))
 
     stream-fits : (j : Stream) → Mem j (streamsIn d) → StreamFits j
     unfolding octetLimit
@@ -143,14 +142,13 @@ module _ (d : Desk) (f : Fit d) (id : ℕ) where
 
       -- what is asked of the bound's numbers
       pub asks : Asks (d .rate) (d .cycle) (d .far) (d .tot) (d .nstairs) (d .streams) (d .nstreams) own
-      unfolding gateOf
       asks =
           let v = interference (gateIn d) (slotsIn d) in
           let r = port-in (portIn d) .0 (h .sound .port-in) in
           let all = all-is (gateIn d) (slotsIn d) (d .far) (d .tot) (d .nstairs) (h .stored) (h .count) in
           record {
             table = h .table-fits;
-            all-most = omega (arith, all-at-most-cycle (gateIn d) (slotsIn d) (h .sound .some-free));
+            all-most = omega (arith, same-cycle d, all-at-most-cycle (gateIn d) (slotsIn d) (h .sound .some-free));
             v-grows = subst Mono (sym same-v) (slots-grow (gateIn d) (slotsIn d));
             v-spreads =
                 subst (λ (u : ℕ → ℕ). (x y : ℕ) → u (x + y) ≤ u x + u y) (sym same-v)

@@ -12,7 +12,6 @@ use answers::Figure;
 use answers::Verdict;
 use desk::Desk;
 use gate::RunRow;
-use meaning::Gate;
 use meaning::Refusal;
 use meaning::Run;
 pub use responses::response;
@@ -46,11 +45,7 @@ pub fn runs(d: Desk) -> RunsReply
     ensures { λ r. ⌜ (r ≡ runsReply (asked (held d) (askRuns (held d)))) × Fit (r .desk) ⌝ }
 {
     if d.opened {
-        let g = Gate {
-            cycle: d.cycle,
-            guard: d.guard,
-            header: d.header,
-        };
+        let g = entries::gate_of(desk::entries_of(d));
         let slots = d.slots;
         let found = gate::find_runs(g, slots, d.nslots);
         return RunsReply {

@@ -33,6 +33,7 @@ use Rattle.meaning.proofs.Stairs.{stairs-are, same-far, same-total}
 use Rattle.meaning.proofs.Pairs.{pairs-mem, met-at-most}
 use Rattle.meaning.proofs.Gates.{slots-rise, slots-below}
 use Rattle.meaning.proofs.Responses.{bound-iff, bound-at-most}
+use Rattle.meaning.proofs.Sounds.{gate-cycle, gate-chain}
 use Rattle.table.proofs.Demand.{stairs-few}
 use Rattle.report.proofs.Rows.{stair-line-length}
 
@@ -92,14 +93,13 @@ two-told word b deadline w h k =
 
 module _ (p : Port) (ss : List Slot) (js : List Stream) (s : Sound p ss js) where
   runs-32 : length (runs (gateOf p js) ss) ≤ 32
-  unfolding gateOf mostSlots
-  runs-32 = omega (arith, runs-few (gateOf p js) ss (s .chain), s .few-slots)
+  unfolding mostSlots
+  runs-32 = omega (arith, runs-few (gateOf p js) ss (gate-chain p js ss (s .chain)), s .few-slots)
 
   all-small : allLen (runs (gateOf p js) ss) ≤ 100_000_000
-  unfolding gateOf
   all-small =
       let r = port-in p .0 (s .port-in) in
-      omega (arith, all-at-most-cycle (gateOf p js) ss (s .some-free))
+      omega (arith, gate-cycle p js, all-at-most-cycle (gateOf p js) ss (s .some-free))
 
   pub first-short : 17 + length (decimal (allLen (runs (gateOf p js) ss))) + length (decimal (p .cycle))
       + length (decimal (length (runs (gateOf p js) ss))) ≤ 37
@@ -113,14 +113,15 @@ module _ (p : Port) (ss : List Slot) (js : List Stream) (s : Sound p ss js) wher
       )
 
   stair-small : (x : Stair) → Mem x (stairs (gateOf p js) ss) → (x .far ≤ 100_000_000) × (x .total ≤ 100_000_000)
-  unfolding stairs gateOf
+  unfolding stairs
   stair-small x m =
       let g = gateOf p js in
       let range = port-in p .0 (s .port-in) in
       let among = stairs-are (pairs (g .cycle) (runs g ss)) .among x m in
       let (r, q, mr, mq, e) = pairs-mem (g .cycle) (runs g ss) (slots-rise g ss) (slots-below g ss) x .0 among in
-      let far = mod-lt (q .start + (p .cycle - r .start)) {m = p .cycle} (omega arith) in
-      let total = met-at-most (g .cycle) (runs g ss) (r .start) ((q .start + (p .cycle - r .start)) % p .cycle) in
+      let same = gate-cycle p js in
+      let far = mod-lt (q .start + (g .cycle - r .start)) {m = g .cycle} (omega arith) in
+      let total = met-at-most (g .cycle) (runs g ss) (r .start) ((q .start + (g .cycle - r .start)) % g .cycle) in
       (omega (arith, same-far e), omega (arith, same-total e, all-small))
 
   pub stairs-short : length (joined stairLine (stairs (gateOf p js) ss)) ≤ 25_818
