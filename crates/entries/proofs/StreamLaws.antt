@@ -34,13 +34,13 @@ module _ (e : Entries) (j : Stream) where
     says : AddStreamSays j (portIn e) (slotsIn e) (streamsIn e)
     says = add-stream-says j (portIn e) (slotsIn e) (streamsIn e)
 
-    pub add-stream-out-of-range : inRange (streamRanges 1_522 j) ≡ false → addStream j (heldIn e) ≡ refused OutOfRange
-    unfolding octetLimit
+    pub add-stream-out-of-range : inRange (streamRanges (octetLimit (portIn e)) j) ≡ false
+        → addStream j (heldIn e) ≡ refused OutOfRange
     add-stream-out-of-range r = rw (h .holds) (says .out-of-range .1 r)
 
-    module _ (r : inRange (streamRanges 1_522 j) ≡ true) where
+    module _ (r : inRange (streamRanges (octetLimit (portIn e)) j) ≡ true) where
       pub add-stream-full : 64 ≤ e .nstreams → addStream j (heldIn e) ≡ refused Full
-      unfolding octetLimit mostStreams
+      unfolding mostStreams
       add-stream-full n = rw (h .holds) (says .full .1 (r, omega (arith, h .streams-count)))
 
       module _ (n : e .nstreams < 64) (p : ℕ) (at : PlaceOf (λ x. x .id) (j .id) (streamsIn e) p) where
@@ -49,14 +49,12 @@ module _ (e : Entries) (j : Stream) where
         room = omega (arith, h .streams-count)
 
         pub add-stream-id-held : p < e .nstreams → addStream j (heldIn e) ≡ refused IdHeld
-        unfolding octetLimit
         add-stream-id-held k =
             let o = some-held (λ x. x .id) (j .id) (streamsIn e) p at (omega (arith, h .streams-count)) in
             rw (h .holds) (says .id-held .1 (r, room, o))
 
         pub add-stream-accepts : e .nstreams ≤ p
             → addStream j (heldIn e) ≡ accepted (opened (portIn e) (slotsIn e) (withStream j (streamsIn e)))
-        unfolding octetLimit
         add-stream-accepts k =
             let o = none-held (λ x. x .id) (j .id) (streamsIn e) p at (omega (arith, h .streams-count)) in
             rw (h .holds) (says .accepts _ .1 (r, room, o, refl))

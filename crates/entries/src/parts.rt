@@ -1,11 +1,15 @@
-// The parts of an edit: its answer, and the gate numbers in force.
+// The parts of an edit: its answer, the gate numbers in force, and the octet limit.
 ghost use mathlib.Core.Path.{_≡_};
-ghost use Rattle.entries.specs.Entries.{gateIn, accepting, refusing};
+ghost use Rattle.meaning.specs.Ranges.{octetLimit};
+ghost use Rattle.entries.specs.Entries.{portIn, gateIn, accepting, refusing};
 use crate::Entries;
 use crate::EntriesReply;
 use answers::Verdict;
 use meaning::Gate;
 use meaning::Refusal;
+
+// The octets of a frame, at most.
+const OCTET_LIMIT: u64 = 1_522;
 
 // An accepted edit, and the entries that it made.
 pub fn accept(e: Entries) -> EntriesReply
@@ -36,4 +40,11 @@ pub fn gate_of(e: Entries) -> Gate
         guard: e.guard,
         header: e.header,
     }
+}
+
+// The octets of a frame, at most, by the port.
+pub fn octet_limit(e: Entries) -> u64
+    ensures { λ r. ⌜ r ≡ octetLimit (portIn e) ⌝ }
+{
+    OCTET_LIMIT
 }

@@ -1,14 +1,15 @@
 // A stream more or less (document 01, "Adding a stream: 4, 5, 7, 8", "Removing: 4, 9").
 ghost use mathlib.Core.Path.{_≡_};
 ghost use mathlib.Core.Bool.{true};
-ghost use Rattle.meaning.specs.Ranges.{streamRanges, inRange};
+ghost use Rattle.meaning.specs.Ranges.{octetLimit, streamRanges, inRange};
 ghost use Rattle.meaning.specs.Desks.{edited};
 ghost use Rattle.meaning.specs.Calls.{addStream, removeStream};
 ghost use Rattle.ranges.specs.Numbers.{streamOf};
-ghost use Rattle.entries.specs.Entries.{heldIn, FitEntries, withStreamRow, entriesReply};
+ghost use Rattle.entries.specs.Entries.{heldIn, portIn, FitEntries, withStreamRow, entriesReply};
 use crate::Entries;
 use crate::EntriesReply;
 use crate::parts::accept;
+use crate::parts::octet_limit;
 use crate::parts::refuse;
 use meaning::Refusal;
 use meaning::Stream;
@@ -26,7 +27,7 @@ fn with_streams(e: Entries, row: [Stream; 64], n: usize) -> Entries
 
 // The stream j, which is in range, held beside the others where it finds room.
 fn place_stream(e: Entries, j: Stream) -> EntriesReply
-    requires { ⌜ FitEntries e × (e .opened ≡ true) × (inRange (streamRanges 1_522 j) ≡ true) ⌝ }
+    requires { ⌜ FitEntries e × (e .opened ≡ true) × (inRange (streamRanges (octetLimit (portIn e)) j) ≡ true) ⌝ }
     ensures { λ r. ⌜ (r ≡ entriesReply (edited (heldIn e) (addStream j (heldIn e)))) × FitEntries (r .entries) ⌝ }
 {
     let streams = e.streams;
@@ -51,7 +52,7 @@ pub fn hold_stream(e: Entries, j: StreamNumbers) -> EntriesReply
     if !e.opened {
         return refuse(e, Refusal::OutOfTurn);
     }
-    if !ranges::stream_in_range(j) {
+    if !ranges::stream_in_range(octet_limit(e), j) {
         return refuse(e, Refusal::OutOfRange);
     }
     place_stream(e, ranges::narrow_stream(j))

@@ -5,13 +5,14 @@ use mathlib.Core.Logic.{_↔_, Iff·trans, Iff·and}
 use mathlib.Core.Bool.{Bool, true, _&&_, and-eq-true-iff}
 use mathlib.Core.List.{List, [], _∷_}
 use Prim.Native.Nat.{ℕ, _≤_, _<_, zero-le}
+use native.Mathlib.Omega.{arith}
 use lib.Dec.{leb, ltb}
 use borrow.Author.Tests.{leb-true, ltb-true, le-leb, lt-ltb}
 use Rattle.laws.specs.Lists.{every}
 use Rattle.meaning.specs.declared.Port.{Port}
 use Rattle.meaning.specs.declared.Slot.{Slot}
 use Rattle.meaning.specs.declared.Stream.{Stream}
-use Rattle.meaning.specs.Ranges.{within, portRanges, slotRanges, streamRanges, inRange}
+use Rattle.meaning.specs.Ranges.{within, octetLimit, portRanges, slotRanges, streamRanges, inRange}
 
 -- ---- tests
 
@@ -42,6 +43,11 @@ unfolding every
 first test rest = record { says = both test (rest .says) }
 
 -- ---- fields
+
+-- what is known of the octet limit of any port; all else asks the port
+pub octet-limit-most : (p : Port) → octetLimit p ≤ 2_000
+unfolding octetLimit
+octet-limit-most p = omega arith
 
 pub port-in : (p : Port) → inRange (portRanges p) ≡ true
     ↔ ((1 ≤ p .rate) × (p .rate ≤ 5) × (1_000 ≤ p .cycle) × (p .cycle ≤ 100_000_000) × (1 ≤ p .guard)

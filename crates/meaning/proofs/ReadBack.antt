@@ -31,7 +31,7 @@ use Rattle.meaning.specs.Bytes.{read, readPlan, planOctets}
 use Rattle.meaning.proofs.Cells.{fewer-slots-free}
 use Rattle.meaning.proofs.Chains.{chain-mem, chain-split}
 use Rattle.meaning.proofs.Sounds.{gate-of-streams}
-use Rattle.meaning.proofs.InRange.{port-in, slot-in, stream-in}
+use Rattle.meaning.proofs.InRange.{octet-limit-most, port-in, slot-in, stream-in}
 use Rattle.meaning.proofs.Fields.{FieldFits}
 use Rattle.meaning.proofs.Readings.{andThen, editAll, edit-append}
 use Rattle.meaning.proofs.FieldRows.{joined-made}
@@ -123,7 +123,7 @@ module _ (p : Port) (ss : List Slot) (js : List Stream) (sound : Sound p ss js) 
       ∙ rebuilt streamField (λ (l : List Stream). opened p ss l) js stream-behind
 
   pub fields-fit : (f : Field) → Mem f (fieldsOf (opened p ss js)) → FieldFits f
-  unfolding fieldsOf octetLimit
+  unfolding fieldsOf
   fields-fit f m =
       ⊎-elim (λ (e : f ≡ portField p). rw e (let h = port-in p .0 (sound .port-in) in omega arith))
       (λ k. ⊎-elim slots streams (List·Memᴰ·append-cases (map slotField ss) k)) (List·Memᴰ·cases-cons m)
@@ -139,7 +139,7 @@ module _ (p : Port) (ss : List Slot) (js : List Stream) (sound : Sound p ss js) 
       streams k =
           let (j, i, e) = Memᴰ·of-map streamField js k in
           let h = stream-in (octetLimit p) j .0 (sound .streams-in j i) in
-          rw (← e) (omega arith)
+          rw (← e) (omega (arith, octet-limit-most p))
 
 -- a sound desk that is written and read is the same desk
 pub written-reads-back : (p : Port) (ss : List Slot) (js : List Stream) → SoundDesk (opened p ss js)

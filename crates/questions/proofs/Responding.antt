@@ -21,7 +21,7 @@ use Rattle.meaning.specs.Response.{others, lowerWire, bound}
 use Rattle.meaning.specs.Refusals.{Answer, accepted, refused}
 use Rattle.meaning.specs.Desks.{opened, asked}
 use Rattle.meaning.specs.Calls.{boundOf, verdict, respond, askResponse}
-use Rattle.meaning.proofs.InRange.{port-in, stream-in}
+use Rattle.meaning.proofs.InRange.{octet-limit-most, port-in, stream-in}
 use Rattle.meaning.proofs.Gates.{slots-grow, slots-spread}
 use Rattle.meaning.proofs.Windows.{all-at-most-cycle}
 use Rattle.table.proofs.Demand.{all-is, rows-give-interference}
@@ -105,11 +105,10 @@ module _ (d : Desk) (f : Fit d) (id : ℕ) where
         ∙ fun-ext (rows-give-interference (gateIn d) (slotsIn d) (d .far) (d .tot) (d .nstairs) (h .stored) (h .count))
 
     stream-fits : (j : Stream) → Mem j (streamsIn d) → StreamFits j
-    unfolding octetLimit
     stream-fits j m =
         let r = stream-in (octetLimit (portIn d)) j .0 (h .sound .streams-in j m) in
         record {
-          octets-most = omega arith;
+          octets-most = omega (arith, octet-limit-most (portIn d));
           period-least = omega arith;
           period-most = omega arith;
           jitter-most = omega arith;

@@ -1,7 +1,7 @@
 // The ranges of document 01: the numbers of a call are tested first, and those in range are stored in 32 bits.
 ghost use mathlib.Core.Path.{_≡_};
 ghost use mathlib.Core.Bool.{true};
-ghost use Prim.Native.Nat.{_<_};
+ghost use Prim.Native.Nat.{ℕ, _<_};
 ghost use Rattle.meaning.specs.Ranges as Meant;
 ghost use Rattle.meaning.specs.Ranges.{portRanges, slotRanges, streamRanges, inRange};
 ghost use Rattle.ranges.specs.Numbers.{portOf, slotOf, streamOf};
@@ -27,9 +27,6 @@ pub struct StreamNumbers {
     pub deadline: u64,
 }
 
-// The octets of a frame, at most.
-const OCTET_LIMIT: u64 = 1_522;
-
 // Whether x lies from lo to hi, both in range.
 fn within(lo: u64, hi: u64, x: u64) -> bool
     ensures { λ r. ⌜ r ≡ Meant.within lo hi x ⌝ }
@@ -54,13 +51,13 @@ pub fn slot_in_range(cycle: u32, start: u64, end: u64) -> bool
     (start < end) & (end <= cycle as u64)
 }
 
-// Whether the numbers of a stream are in range.
-pub fn stream_in_range(j: StreamNumbers) -> bool
-    ensures { λ r. ⌜ r ≡ inRange (streamRanges 1_522 (streamOf j)) ⌝ }
+// Whether the numbers of a stream are in range, its octets up to a limit.
+pub fn stream_in_range(limit: u64, j: StreamNumbers) -> bool
+    ensures { λ r. ⌜ r ≡ inRange (streamRanges limit (streamOf j)) ⌝ }
 {
     within(0, 65_535, j.id)
         & within(0, 7, j.priority)
-        & within(64, OCTET_LIMIT, j.octets)
+        & within(64, limit, j.octets)
         & within(10_000, 100_000_000, j.period)
         & within(0, 100_000_000, j.jitter)
         & within(1, 100_000_000, j.deadline)
@@ -100,7 +97,7 @@ pub fn narrow_slot(start: u64, end: u64) -> Slot
 
 // The numbers of a stream in 32 bits.
 pub fn narrow_stream(j: StreamNumbers) -> Stream
-    requires { ⌜ inRange (streamRanges 1_522 (streamOf j)) ≡ true ⌝ }
+    requires { ⌜ ((limit : ℕ) × (limit < 4_294_967_296) × (inRange (streamRanges limit (streamOf j)) ≡ true)) ⌝ }
     ensures { λ r. ⌜ r ≡ streamOf j ⌝ }
 {
     Stream {

@@ -18,7 +18,7 @@ use Rattle.meaning.specs.Refusals.{Answer, accepted, refused}
 use Rattle.meaning.specs.Desks.{opened, asked}
 use Rattle.meaning.specs.Bytes.{portField, slotField, streamField, tagOf, valueLength, fieldLength, fieldOctets}
 use Rattle.meaning.specs.Bytes.{fieldsOf, planOctets, planLength, writePlan, written, roomAfter}
-use Rattle.meaning.proofs.InRange.{port-in, stream-in}
+use Rattle.meaning.proofs.InRange.{octet-limit-most, port-in, stream-in}
 use Rattle.meaning.proofs.Fields.{field-length}
 use Rattle.meaning.proofs.Plans.{plan-length, plan-octets-length, write-says}
 use Rattle.entries.proofs.Opened.{Open, open-entries}
@@ -59,10 +59,9 @@ module _ (d : Desk) (f : Fit d) (o : d .opened ≡ true) where
   rate-fits = omega (arith, port-in (portIn d) .0 (open-of .sound .port-in))
 
   pub streams-fit : AllFit (streamsIn d)
-  unfolding octetLimit
   streams-fit j m =
       let h = stream-in (octetLimit (portIn d)) j .0 (open-of .sound .streams-in j m) in
-      omega arith
+      omega (arith, octet-limit-most (portIn d))
 
 -- ---- the room, field by field
 

@@ -13,7 +13,8 @@ in-32-bits : (c : tie.Start)
     (j .id < 4_294_967_296) × (j .priority < 4_294_967_296) × (j .octets < 4_294_967_296)
     × (j .period < 4_294_967_296) × (j .jitter < 4_294_967_296) × (j .deadline < 4_294_967_296)
 in-32-bits c =
-    let b = stream-in 1_522 (streamOf (c .args .j)) .0 (c .pre) in
+    let (limit, small, inside) = c .pre in
+    let b = stream-in limit (streamOf (c .args .j)) .0 inside in
     (omega arith, omega arith, omega arith, omega arith, omega arith, omega arith)
 
 narrow-requires : tie.Need-narrow-requires
