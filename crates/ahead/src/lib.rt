@@ -1,4 +1,6 @@
 // The streams that count for a response (document 01, "Response bound"), as rows of numbers.
+#![tactic(auto)]
+
 ghost use Rattle.std.specs.Prelude.{◌≡◌, ◌≤◌, max, take};
 ghost use Rattle.laws.specs.Lists.{Mem, without};
 ghost use Rattle.meaning.specs.declared.Stream.{Stream};
@@ -10,7 +12,7 @@ use wire::Timing;
 
 // The streams of equal or higher priority: how many, and the period, the jitter and the wire time of each. Beside them
 // the largest wire time of a stream of lower priority, 0 with none.
-#[derive(Drop)]
+#[derive(Clone, Copy)]
 pub struct Ahead {
     pub n: usize,
     pub per: [u32; 64],

@@ -1,18 +1,20 @@
 // What a call answers: a verdict or a figure, and document 01's number of a refusal ("What is refused").
+#![tactic(auto)]
+
 ghost use Rattle.std.specs.Prelude.{◌≡◌};
 ghost use Rattle.meaning.specs.Refusals.{number_of};
 
 use meaning::Refusal;
 
 // What an edit answers, and what a question for rows answers beside its rows.
-#[derive(Drop)]
+#[derive(Clone, Copy)]
 pub enum Verdict {
     Accepted,
     Refused(Refusal),
 }
 
 // What a question for a number answers.
-#[derive(Drop)]
+#[derive(Clone, Copy)]
 pub enum Figure {
     Is(u64),
     Refused(Refusal),

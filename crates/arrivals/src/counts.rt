@@ -6,7 +6,7 @@ use crate::{frames_in, frames_wire, next_after, step};
 
 // The wire time of the frames counted, and the least next instant: with no stream, the largest number. The shortest
 // period tells which way to go on counting is the cheaper one, and nothing more.
-#[derive(Drop)]
+#[derive(Clone, Copy)]
 pub struct Counts {
     pub load: u64,
     pub least: u32,
@@ -69,7 +69,7 @@ pub fn count(
 }
 
 // What a pass adds, and the least next instant after it.
-#[derive(Drop)]
+#[derive(Clone, Copy)]
 pub struct Added {
     pub load: u32,
     pub least: u32,

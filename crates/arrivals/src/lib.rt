@@ -1,4 +1,6 @@
 // Arrivals: all that the code takes from the formulas of document 01. How many frames can come, and when the next one.
+#![tactic(auto)]
+
 ghost use Rattle.std.specs.Prelude.{◌≡◌, ℕ, ◌*◌, ◌≤◌, ◌<◌};
 ghost use Rattle.meaning.specs.Arrivals.{most_in};
 ghost use Rattle.meaning.proofs.Later.{next_of};

@@ -1,4 +1,6 @@
 // The response bound (document 01, "Response bound").
+#![tactic(auto)]
+
 ghost use Rattle.std.specs.Prelude.{◌≡◌, take};
 ghost use Rattle.laws.specs.Lists.{without};
 ghost use Rattle.meaning.specs.Response.{lower_wire, bound};
@@ -15,7 +17,7 @@ use meaning::Stream;
 use search::{HORIZON, Own, Sizes, window};
 
 // What is answered about a stream: its bound, or that it is endless.
-#[derive(Drop)]
+#[derive(Clone, Copy)]
 pub enum Response {
     Within(u32),
     Endless,

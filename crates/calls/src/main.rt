@@ -1,5 +1,7 @@
 // Makes some hundred calls on one desk, in many orders, and prints a line for each: its row, its kind, document 01's
 // number of the answer (0 where it is accepted) and the value it carries; runs and stairs follow a line each.
+#![tactic(auto)]
+
 ghost use Rattle.std.specs.Prelude.{◌<◌};
 ghost use Rattle.desk.specs.Desks.{Fit};
 

@@ -1,4 +1,6 @@
 // The desk (document 01) and its edits: every call takes it by value and hands it back.
+#![tactic(auto)]
+
 mod parts;
 mod ports;
 mod slots;
@@ -14,7 +16,7 @@ pub use streams::{add_stream, remove_stream};
 // One output port: its numbers, its slots by rising start, its streams by rising id, and its stairs as a row of
 // distances and a row of totals. Free places are zero, and a bare desk is all zero.
 #[repr(C)]
-#[derive(Drop)]
+#[derive(Clone, Copy)]
 pub struct Desk {
     pub opened: bool,
     pub rate: u32,
@@ -30,7 +32,7 @@ pub struct Desk {
     pub tot: [u32; 993],
 }
 
-#[derive(Drop)]
+#[derive(Clone, Copy)]
 pub struct EditReply {
     pub verdict: Verdict,
     pub desk: Desk,

@@ -1,4 +1,6 @@
 // What a desk holds (document 01), without its stairs: port, slots and streams, and each edit of them.
+#![tactic(auto)]
+
 mod parts;
 mod ports;
 mod slots;
@@ -13,7 +15,7 @@ pub use streams::{drop_stream, hold_stream};
 
 // What one output port has been given: its numbers, its slots by rising start and its streams by rising id. Free places
 // are zero, and where no port is open all is zero.
-#[derive(Drop)]
+#[derive(Clone, Copy)]
 pub struct Entries {
     pub opened: bool,
     pub rate: u32,
@@ -26,7 +28,7 @@ pub struct Entries {
     pub streams: [Stream; 64],
 }
 
-#[derive(Drop)]
+#[derive(Clone, Copy)]
 pub struct EntriesReply {
     pub verdict: Verdict,
     pub entries: Entries,

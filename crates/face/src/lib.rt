@@ -1,4 +1,6 @@
 // The desk for programs in Rust and C: every call of document 01 with plain numbers in and out, and the desk by value.
+#![tactic(auto)]
+
 mod asking;
 mod edits;
 mod numbers;
@@ -11,7 +13,7 @@ use meaning::Run;
 // are 0 where there is nothing to tell.
 
 #[repr(C)]
-#[derive(Drop)]
+#[derive(Clone, Copy)]
 pub struct Edited {
     pub number: u64,
     pub desk: Desk,
@@ -19,7 +21,7 @@ pub struct Edited {
 
 // The value asked for; the bound of a late stream.
 #[repr(C)]
-#[derive(Drop)]
+#[derive(Clone, Copy)]
 pub struct Figured {
     pub number: u64,
     pub value: u64,
@@ -28,7 +30,7 @@ pub struct Figured {
 
 // The first `count` runs, by rising start.
 #[repr(C)]
-#[derive(Drop)]
+#[derive(Clone, Copy)]
 pub struct RunsTold {
     pub number: u64,
     pub count: u64,
@@ -38,7 +40,7 @@ pub struct RunsTold {
 
 // The first `count` distances and totals, by rising distance.
 #[repr(C)]
-#[derive(Drop)]
+#[derive(Clone, Copy)]
 pub struct StairsTold {
     pub number: u64,
     pub count: u64,
@@ -49,7 +51,7 @@ pub struct StairsTold {
 
 // The place of a refused field's first octet.
 #[repr(C)]
-#[derive(Drop)]
+#[derive(Clone, Copy)]
 pub struct PlanRead {
     pub number: u64,
     pub place: u64,
@@ -58,7 +60,7 @@ pub struct PlanRead {
 
 // How many octets were written.
 #[repr(C)]
-#[derive(Drop)]
+#[derive(Clone, Copy)]
 pub struct PlanWritten {
     pub number: u64,
     pub count: u64,

@@ -1,4 +1,6 @@
 // One field of a plan's bytes, read at a place (document 01, "The reader walks the plan one field at a time").
+#![tactic(auto)]
+
 ghost use Rattle.std.specs.Prelude.{◌≡◌, ◌+◌, ◌<◌, ◌≤◌, length, drop};
 ghost use Rattle.meaning.specs.Bytes.{number_at, front};
 ghost use Rattle.fields.specs.Reading.{field_at, value_at};
@@ -6,7 +8,7 @@ ghost use Rattle.fields.specs.Reading.{field_at, value_at};
 use meaning::{Port, Refusal, Slot, Stream};
 
 // What stands at a place of the plan: a field, or why it is refused.
-#[derive(Drop)]
+#[derive(Clone, Copy)]
 pub enum FieldAt {
     Port(Port),
     Slot(Slot),
@@ -15,7 +17,7 @@ pub enum FieldAt {
 }
 
 // What a field's length and the octets left say of its value.
-#[derive(Drop)]
+#[derive(Clone, Copy)]
 enum ValueAt {
     Whole,
     Refused(Refusal),
@@ -150,7 +152,7 @@ pub fn field_at(plan: &[u8], at: usize) -> FieldAt
 }
 
 // A reader of a plan: the lent octets, and the place it has come to.
-#[derive(Drop)]
+#[derive(Clone, Copy)]
 pub struct Reader<'a> {
     pub plan: &'a [u8],
     pub at: usize,

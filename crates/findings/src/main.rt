@@ -1,11 +1,13 @@
 // Prints the findings of the plan on standard input (document 01, "Findings program"). What it prints is proved in
 // `report`; here octets are read and written.
+#![tactic(auto)]
+
 ghost use Rattle.std.specs.Prelude.{◌+◌, ◌≤◌, length};
 
 use libc::{STDIN_FILENO, STDOUT_FILENO};
 
 // How many octets of the input were taken, and whether a read failed.
-#[derive(Drop)]
+#[derive(Clone, Copy)]
 struct Taken {
     octets: usize,
     failed: bool,

@@ -1,4 +1,6 @@
 // The frames of a busy window: the largest response of those that are asked about.
+#![tactic(auto)]
+
 ghost use Rattle.std.specs.Prelude.{◌≡◌, ◌+◌, ◌-◌, ◌*◌, ◌≤◌, max, length};
 ghost use Rattle.meaning.specs.Arrivals.{most_in};
 ghost use Rattle.arrivals.specs.Rows.{RowsFit};

@@ -1,4 +1,6 @@
 // Blocked runs (document 01, "Blocked runs"): from gate numbers and slots in a chain, linear in the slots.
+#![tactic(auto)]
+
 ghost use Rattle.std.specs.Prelude.{◌≡◌, ◌+◌, ◌≤◌, take, drop};
 ghost use Rattle.meaning.specs.Runs.{has_free, runs};
 ghost use Rattle.meaning.specs.Promises.{Chain};
@@ -9,7 +11,7 @@ ghost use Rattle.gate.specs.Walks.{hang_ends, run_with, walked};
 use meaning::{Gate, Run, Slot};
 
 // A row of runs: the first n places hold them, the others are empty.
-#[derive(Drop)]
+#[derive(Clone, Copy)]
 pub struct RunRow {
     pub n: usize,
     pub row: [Run; 32],

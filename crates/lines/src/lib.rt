@@ -1,4 +1,6 @@
 // The lines that `findings` prints (document 01, "Findings program"), each at the front of a room.
+#![tactic(auto)]
+
 ghost use Rattle.std.specs.Prelude.{◌≡◌, ◌++◌, ◌+◌, ◌≤◌, length};
 ghost use Rattle.meaning.specs.Findings.{decimal, told, newline, blocked_line, stair_line, refused_line};
 ghost use Rattle.lines.specs.Texts.{Wrote, figure_words, figure_line};

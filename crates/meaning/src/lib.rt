@@ -1,7 +1,8 @@
 // Document 01: its records and its refusals. What they mean stands in specs/, what is proved of it in proofs/.
+#![tactic(auto)]
 
 // The numbers of an output port.
-#[derive(Drop)]
+#[derive(Clone, Copy)]
 pub struct Port {
     pub rate: u32,
     pub cycle: u32,
@@ -10,7 +11,7 @@ pub struct Port {
 }
 
 // The gate numbers in force, in ns.
-#[derive(Drop)]
+#[derive(Clone, Copy)]
 pub struct Gate {
     pub cycle: u32,
     pub guard: u32,
@@ -19,7 +20,7 @@ pub struct Gate {
 
 // A scheduled slot, from its start up to, not including, its end.
 #[repr(C)]
-#[derive(Drop)]
+#[derive(Clone, Copy)]
 pub struct Slot {
     pub start: u32,
     pub end: u32,
@@ -27,7 +28,7 @@ pub struct Slot {
 
 // An unscheduled stream.
 #[repr(C)]
-#[derive(Drop)]
+#[derive(Clone, Copy)]
 pub struct Stream {
     pub id: u32,
     pub priority: u32,
@@ -39,21 +40,21 @@ pub struct Stream {
 
 // A blocked run: the cell it starts at, and its length.
 #[repr(C)]
-#[derive(Drop)]
+#[derive(Clone, Copy)]
 pub struct Run {
     pub start: u32,
     pub len: u32,
 }
 
 // A stair, or any pair of a distance and a total length.
-#[derive(Drop)]
+#[derive(Clone, Copy)]
 pub struct Stair {
     pub far: u32,
     pub total: u32,
 }
 
 // The fourteen refusals, in the order of their numbers. Late carries the bound.
-#[derive(Drop)]
+#[derive(Clone, Copy)]
 pub enum Refusal {
     CutShort,
     UnknownTag,

@@ -1,6 +1,8 @@
 // Reads the plans that its arguments name and writes each back: a line with the name, document 01's number of the
 // answer (0 where it is read) and the place; then the writer's number, its count, and the octets in front of the
 // room.
+#![tactic(auto)]
+
 ghost use Rattle.std.specs.Prelude.{◌≡◌, length};
 ghost use Rattle.desk.specs.Desks.{Fit};
 

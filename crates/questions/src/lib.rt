@@ -1,4 +1,6 @@
 // Questions on a desk (document 01): runs, stairs, interference and response. The desk handed back is the one given.
+#![tactic(auto)]
+
 mod responses;
 
 ghost use Rattle.std.specs.Prelude.{◌≡◌, true};
@@ -15,14 +17,14 @@ use meaning::{Refusal, Run};
 pub use responses::response;
 use table::Table;
 
-#[derive(Drop)]
+#[derive(Clone, Copy)]
 pub struct FigureReply {
     pub figure: Figure,
     pub desk: Desk,
 }
 
 // No runs on a refusal.
-#[derive(Drop)]
+#[derive(Clone, Copy)]
 pub struct RunsReply {
     pub verdict: Verdict,
     pub runs: RunRow,
@@ -30,7 +32,7 @@ pub struct RunsReply {
 }
 
 // No stairs on a refusal.
-#[derive(Drop)]
+#[derive(Clone, Copy)]
 pub struct StairsReply {
     pub verdict: Verdict,
     pub stairs: Table,

@@ -1,4 +1,6 @@
 // The ranges of document 01: the numbers of a call are tested first, and those in range are stored in 32 bits.
+#![tactic(auto)]
+
 ghost use Rattle.std.specs.Prelude.{◌≡◌, true, ℕ, ◌<◌};
 ghost use Rattle.meaning.specs.Ranges as Meant;
 ghost use Rattle.meaning.specs.Ranges.{port_ranges, slot_ranges, stream_ranges, in_range};
@@ -7,7 +9,7 @@ ghost use Rattle.ranges.specs.Numbers.{port_of, slot_of, stream_of};
 use meaning::{Port, Slot, Stream};
 
 // The numbers of a port, as a caller has them.
-#[derive(Drop)]
+#[derive(Clone, Copy)]
 pub struct PortNumbers {
     pub rate: u64,
     pub cycle: u64,
@@ -16,7 +18,7 @@ pub struct PortNumbers {
 }
 
 // The numbers of a stream, as a caller has them.
-#[derive(Drop)]
+#[derive(Clone, Copy)]
 pub struct StreamNumbers {
     pub id: u64,
     pub priority: u64,

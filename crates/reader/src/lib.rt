@@ -1,5 +1,7 @@
 // Reading a whole plan (document 01, "The reader walks the plan one field at a time and makes the edit each field
 // names").
+#![tactic(auto)]
+
 ghost use Rattle.std.specs.Prelude.{◌≡◌, [], ◌+◌, ◌≤◌, ◌<◌, length, drop};
 ghost use Rattle.meaning.specs.Desks.{edited};
 ghost use Rattle.meaning.specs.Bytes.{going, step, ended, refused_at, read_plan};
@@ -17,14 +19,14 @@ use meaning::{Port, Refusal, Stream};
 use ranges::{PortNumbers, StreamNumbers};
 
 // What reading a plan answers: its place, on a refusal, is that of the field's first octet.
-#[derive(Drop)]
+#[derive(Clone, Copy)]
 pub enum ReadAnswer {
     Read,
     Refused { why: Refusal, place: usize },
 }
 
 // The bare desk on a refusal.
-#[derive(Drop)]
+#[derive(Clone, Copy)]
 pub struct ReadReply {
     pub answer: ReadAnswer,
     pub desk: Desk,
@@ -32,7 +34,7 @@ pub struct ReadReply {
 
 // One field walked: the place behind it and what its edit made; or why it is refused, its place and the entries as they
 // were.
-#[derive(Drop)]
+#[derive(Clone, Copy)]
 pub struct Walked {
     pub verdict: Verdict,
     pub at: usize,

@@ -1,4 +1,6 @@
 // The text that `findings` prints (document 01, "Findings program"), made in a caller's room.
+#![tactic(auto)]
+
 ghost use Rattle.std.specs.Prelude.{true, ◌≡◌, List, ℕ, ◌≤◌, length, take};
 ghost use Rattle.laws.specs.Lists.{joined};
 ghost use Rattle.meaning.specs.Bytes.{read, refused_at};

@@ -1,4 +1,6 @@
 // Fields written into a caller's room (document 01, "each field into the rest of the caller's room").
+#![tactic(auto)]
+
 ghost use Rattle.std.specs.Prelude.{◌≡◌, ◌++◌, map, ◌*◌, ◌<◌, ◌≤◌, length, take, drop};
 ghost use Rattle.laws.specs.Lists.{joined};
 ghost use Rattle.meaning.specs.Bytes.{octets_of, port_field, slot_field, stream_field, field_octets};

@@ -1,4 +1,6 @@
 // Rows of slots by rising start and of streams by rising id, with zero in the free places behind them.
+#![tactic(auto)]
+
 ghost use Rattle.std.specs.Prelude.{◌≡◌, ◌<◌, ◌≤◌, ltb, eqb, take};
 ghost use Rattle.laws.specs.Lists.{any, place_by, without};
 ghost use Rattle.meaning.specs.Calls.{overlaps, with_slot, with_stream};

@@ -1,4 +1,6 @@
 // The least number that closes, by iteration from below: the wait of a frame, and the busy window.
+#![tactic(auto)]
+
 ghost use Rattle.std.specs.Prelude.{◌≡◌, ◌+◌, ◌*◌, ◌≤◌, length};
 ghost use Rattle.laws.specs.Numbers.{Least};
 ghost use Rattle.laws.proofs.Leasts.{Under};
@@ -16,7 +18,7 @@ use hasten::hasten;
 pub const HORIZON: u64 = 100_000_000;
 
 // How many streams the rows hold, how many stairs, and the cycle.
-#[derive(Drop)]
+#[derive(Clone, Copy)]
 pub struct Sizes {
     pub n: usize,
     pub m: usize,
@@ -24,7 +26,7 @@ pub struct Sizes {
 }
 
 // Of the stream asked about: the largest wire time of a lower priority, its wire time, its period and its jitter.
-#[derive(Drop)]
+#[derive(Clone, Copy)]
 pub struct Own {
     pub lower: u32,
     pub wire: u32,
@@ -33,14 +35,14 @@ pub struct Own {
 }
 
 // A try: what it asks for, and the frames counted by then.
-#[derive(Drop)]
+#[derive(Clone, Copy)]
 pub struct Tried {
     pub need: u64,
     pub seen: Counts,
 }
 
 // A number that closes, and the frames counted by then.
-#[derive(Drop)]
+#[derive(Clone, Copy)]
 pub struct Found {
     pub w: u32,
     pub seen: Counts,

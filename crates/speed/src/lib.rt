@@ -1,4 +1,6 @@
 // The response bound as a number, for the program in bench/ that times it.
+#![tactic(auto)]
+
 ghost use Rattle.std.specs.Prelude.{◌≡◌};
 ghost use Rattle.meaning.specs.Response.{bound};
 ghost use Rattle.search.specs.Searches.{table_v};

@@ -1,5 +1,7 @@
 // The stairs from the runs: from each run there is a row of pairs, and the nearest head of all rows is taken each time.
 // The heads are the leaves of a tree, so that the next head of a row is compared with five others and not with all.
+#![tactic(auto)]
+
 ghost use Rattle.std.specs.Prelude.{◌≡◌, List, ℕ, ◌+◌, ◌*◌, ◌/◌, ◌%◌, ◌≤◌, ◌<◌, length, get_or, set, take, replicate};
 ghost use Rattle.meaning.specs.Runs.{dist};
 ghost use Rattle.meaning.specs.Interference.{pairs, stairs_of};

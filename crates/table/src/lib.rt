@@ -1,10 +1,12 @@
 // The interference table (document 01, "Interference"): stairs stored as rows, and V read from them.
+#![tactic(auto)]
+
 ghost use Rattle.std.specs.Prelude.{◌≡◌, ◌≤◌, length};
 ghost use Rattle.meaning.specs.Interference.{by_stairs};
 ghost use Rattle.table.specs.Lookup.{stairs_in, all_in, reached_in, RisesTo, TableFits};
 
 // How many stairs there are, their distances and their totals. The places left are 0.
-#[derive(Drop)]
+#[derive(Clone, Copy)]
 pub struct Table {
     pub n: usize,
     pub far: [u32; 993],

@@ -1,4 +1,6 @@
 // Prints the findings of each plan that its arguments name, behind a line with the name.
+#![tactic(auto)]
+
 use libc::STDOUT_FILENO;
 
 // The findings of the file, from its first 4,096 octets.

@@ -1,10 +1,12 @@
 // Wire time (document 01, "Wire time"): how long a frame occupies the wire, rounded up once, at the end.
+#![tactic(auto)]
+
 ghost use Rattle.std.specs.Prelude.{◌≡◌};
 ghost use Rattle.meaning.specs.Wire.{ten_octets, wire_time};
 ghost use Rattle.wire.specs.Timing.{timed};
 
 // A time in ns; a number that is no rate code is refused by name.
-#[derive(Drop)]
+#[derive(Clone, Copy)]
 pub enum Timing {
     Time(u64),
     UnknownRate,

@@ -1,4 +1,6 @@
 // Prints the runs and the stairs of plan F, and of the worked example of document 000, Table I, scaled by 1,000.
+#![tactic(auto)]
+
 ghost use Rattle.std.specs.Prelude.{[], ◌∷◌, ◌≡◌, ◌≤◌, take};
 ghost use Rattle.meaning.specs.Promises.{Chain};
 ghost use Rattle.gate.specs.Rows.{GateFits};

@@ -1,5 +1,7 @@
 // Writing a whole plan (document 01, "Writing: 4, 11."): the room is tested first, then each field fills the front of
 // what those before it leave.
+#![tactic(auto)]
+
 ghost use Rattle.std.specs.Prelude.{◌≡◌};
 ghost use Rattle.meaning.specs.Desks.{asked};
 ghost use Rattle.meaning.specs.Bytes.{write_plan, written, room_after};
@@ -11,14 +13,14 @@ use meaning::{Port, Refusal};
 use room::{put_port, put_slots, put_streams};
 
 // What writing a plan answers: how many octets it wrote.
-#[derive(Drop)]
+#[derive(Clone, Copy)]
 pub enum WriteAnswer {
     Wrote(usize),
     Refused(Refusal),
 }
 
 // The desk is the one given.
-#[derive(Drop)]
+#[derive(Clone, Copy)]
 pub struct WriteReply {
     pub answer: WriteAnswer,
     pub desk: Desk,

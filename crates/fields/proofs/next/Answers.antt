@@ -1,0 +1,231 @@
+-- `fields::next` meets its contract: a walk of its MIR, by hand. The struct is taken apart, and `field_at` is called on
+-- the slice and the number. All that the proof knows of `field_at` is that it meets its contract.
+-- The struct is Copy, so what it owns is had twice: one copy is kept whole for the exit, and of the other what plan
+-- owns goes to the callee, beside the lifetime's token, which comes back.
+use mathlib.Core.Path.{◌≡◌, refl}
+use mathlib.Core.List.{[], ◌∷◌}
+use Prim.Native.Nat.{◌<◌, ◌≤◌, ◌^◌}
+use lib.Dec.{T as Holds}
+use lib.ListN.{length, drop}
+use seplogic.Ra.Ura.{Ura}
+use mir.Syntax.{named, w64}
+use mir.Val.{Val, WT, has_ty, vint}
+use base.Logic.{SProp, ent, sep, snd∗, ex_e, id⊢}
+use base.Fml.{Lft, Share, Fml, ftrue, flft}
+use prog.Memory.{Memory}
+use prog.Routine.{Routine}
+use prog.Wp.{Calls, Loops, WpFn, Tables}
+use types.Logic.{Logic, sem}
+use contract.Lifetimes.{Lfts}
+use contract.Monad.{Fun, fact}
+use contract.Running.{tables, tables_of}
+use types.Kit.{‵, raw, ◌⊛◌, given, ⋆, some, later, ◌$◌, ◌∵◌, !, qed, by, move, drop as leave, use1, use2}
+use types.Kit.{split, learn, pick, fsplit, fjoin, suffices, frame, await, done}
+use types.Part.{whole, sub, look_in}
+use types.Run.{look, init, forget, stop, fld, from, load, of_opd, and_then, no_more, assigns, land, returns, enter}
+use types.Run.{alloc1, alloc0, params1, pass1, pass0, free1, free0}
+use sound.WpLaws.{FmC, fm_of, WpFn-mono}
+use denote.RattleType.{RattleType, owns}
+use denote.Laws.{Is, shows}
+use denote.Plain.{uint_Makes}
+use denote.Builtin.{u8, usize}
+use denote.Ref.{NamedLft}
+use denote.Signature.{named_lft}
+use denote.Slice.{slice_val, ShrSlice}
+use denote.Steps.{owned, peeks, heard, nothing}
+use denote.Enum.Laws as EL
+use denote.Struct.Declared.{Declared}
+use denote.Struct.Laws as LL
+use denote.Struct.Rest.{all_own, field_own, rest, own_open, own_out}
+use denote.Struct.Values.{Values}
+use denote.Triple.Call.{calls_at}
+use denote.Triple.Clauses.{ensured, lasts}
+use denote.Triple.Entry.{Vals, on_entry}
+use denote.Triple.Spec.{Meets, triple_of}
+use denote.Triple.Table.{entered, cited}
+use denote.Triple.Walked.{says, needs, Stays, stay_none, walk_of, Goes-none, Walks, ends_at, walked, walk_Meets}
+use denote.Exit.{yes}
+use Rattle.meaning.specs.Bytes.{front}
+use Rattle.fields.specs.declared.Reader.{Reader}
+use Rattle.fields.specs.declared.FieldAt.{FieldAt}
+use Rattle.fields.specs.Reading.{field_at}
+use Rattle.fields.specs.contracts.Reader as T
+use Rattle.fields.proofs.Reader.TheLaws as T'
+use Rattle.fields.specs.contracts.FieldAt as S
+use Rattle.fields.proofs.FieldAt.TheLaws as S'
+use Rattle.fields.specs.contracts.field_at as callee
+use Rattle.fields.proofs.field_at.Symbol as callee-def
+use Rattle.fields.proofs.field_at.Symbol.{name as #fields·field-at}
+use Rattle.fields.proofs.field_at.Met as callee-thm
+use Rattle.fields.specs.contracts.next.Key.{name as #fields·next}
+use Rattle.fields.specs.contracts.next as next
+use Rattle.fields.proofs.next.Code as code
+use Rattle.fields.proofs.next.Goals as goal
+
+-- the signature's lifetime, and the struct's type over it
+abbrev α : Lfts 1 → NamedLft
+α = named_lft 1 0 tt
+
+abbrev B : Lfts 1 → RattleType
+B = T.the_row (α)
+
+abbrev stayed : Stays (next.ended).signature.params (next.ended).kept
+stayed = (stay_none B yes, tt)
+
+module _ {M : Type 1} {𝓤 : Ura M} (𝓛 : Logic 𝓤) (mem : Memory → SProp 𝓤) (run : Routine → Fun 𝓤) where
+  -- the contract that the proof cites
+  abbrev Callee : Contract 𝓤
+  Callee = triple_of 𝓛 callee.signature (callee.spec 𝓛 mem run)
+
+module _ {M : Type 1} {𝓤 : Ura M} (𝓛 : Logic 𝓤) (mem : Memory → SProp 𝓤)
+    (run : Routine → Fun 𝓤) (κ : Lft) (q : Share) (d : Reader) where
+  -- the machine value that d has, and that of its plan
+  open 𝓛 use {H}
+
+  abbrev mach : Val
+  mach = T'.lowered d
+
+  abbrev v : Val
+  v = slice_val d.plan.ref_ptr (length d.plan.now)
+
+  abbrev found : FieldAt
+  found = field_at (front (drop d.at d.plan.now))
+
+  abbrev Pre : SProp 𝓤
+  Pre = on_entry 𝓛 next.signature (κ, tt) (q, tt) (d, tt) (mach ∷ [], tt)
+
+  abbrev Post : Val → SProp 𝓤
+  Post =
+      (walk_of 𝓛 next.ended stayed (next.clauses 𝓛 mem run)).post
+      (((κ, tt), (q, tt), tt, (d, tt), (mach ∷ [], tt)), tt)
+
+  abbrev Own : Fml
+  Own = (B (κ, tt)).own d (mach ∷ [])
+
+  -- the struct's type and laws, and its fields' values
+  abbrev D : Declared
+  D = T.the_type (α (κ, tt))
+
+  abbrev L : LL.Laws D
+  L = T'.the_laws (α (κ, tt))
+
+  abbrev vd : Values D.parts
+  vd = (d.plan, (d.at, tt))
+
+  -- what the callee is passed
+  abbrev passed : Vals callee.signature (κ, tt)
+  passed = (v ∷ [], (vint w64 d.at ∷ [], tt))
+
+  abbrev to : (Callee 𝓛 mem run).Ghost
+  to = (((κ, tt), (q, tt), tt, (d.plan, (d.at, tt)), passed), tt)
+
+  asked : d.at ≤ length d.plan.now
+      → ent 𝓤 (on_entry 𝓛 callee.signature (κ, tt) (q, tt) (d.plan, (d.at, tt)) passed)
+      ((Callee 𝓛 mem run).requires to)
+  asked within =
+      qed 𝓛
+      ((‵ (flft κ q) ⊛ ‵ ftrue)
+      ∷ ‵ (owns (ShrSlice (named 0) κ u8 ∷ usize ∷ []) (d.plan, (d.at, tt)) passed)
+      ∷ []) ∵
+      says ! within $ frame ! $ done !
+
+  -- what the struct owns gives what the callee asks, and is kept
+  apart : d.at < 2 ^ 64 → d.at ≤ length d.plan.now
+      → ent 𝓤 Pre (sep 𝓤 ((Callee 𝓛 mem run).requires to) (sem 𝓛 Own))
+  apart fits within =
+      qed 𝓛 ((‵ (flft κ q) ⊛ ‵ ftrue) ∷ ‵ (owns (B (κ, tt) ∷ []) (d, tt) (mach ∷ [], tt)) ∷ []) ∵
+      move ! (1 ∷ []) $ fsplit ! $ move ! (1 ∷ []) $ leave ! $
+      use1 𝓛 (‵ Own ⊛ ‵ Own) ((LL.copy D (T'.the_copy (α (κ, tt))) 𝓛).twice d (mach ∷ [])) $ split ! $
+      use1 𝓛 (given (mach ∷ [] ≡ mach ∷ []) (‵ (all_own D.parts L vd))) (own_open 𝓛 D L vd mach) $
+      learn ! (λ _.
+      use1 𝓛 (‵ (field_own D.parts L 0 d.plan) ⊛ ‵ (rest D.parts L 0 vd))
+      (own_out 𝓛 D.parts L 0 vd) $ split ! $
+      -- [what plan owns; what at owns; what the struct owns; the token]
+      move ! (1 ∷ []) $ leave ! $ nothing ! $
+      owned ! usize (Is usize) (uint_Makes 𝓛 w64) d.at _ (refl, fits) $
+      fjoin ! $ move ! (1 ∷ 0 ∷ []) $ fjoin ! $ move ! (2 ∷ 0 ∷ []) $
+      use2 𝓛 (raw ((Callee 𝓛 mem run).requires to)) (asked within) $ frame ! $ done !)
+
+  -- what the callee ensures of its result r
+  abbrev Ensured : FieldAt → SProp 𝓤
+  Ensured r = ensured 𝓛 callee.ended (callee.clauses 𝓛 mem run) (κ, tt) (d.plan, (d.at, tt)) tt r
+
+  -- of that the clause alone: the callee has no `&mut`, so what is said of last values is dropped
+  said : (r : FieldAt) → ent 𝓤 (Ensured r) (fact 𝓤 (r ≡ found))
+  said r =
+      ex_e 𝓤 _
+      (λ ws. snd∗ 𝓤 (sem 𝓛 (lasts callee.ended (κ, tt) (d.plan, (d.at, tt)) ws)) (fact 𝓤 (r ≡ found)))
+
+  exits : (r : FieldAt) (u : Val) → r ≡ found
+      → ent 𝓤 (⋆ 𝓛 (‵ ((S.the_row).own_val r (u ∷ [])) ∷ (‵ (flft κ q) ⊛ ‵ ftrue) ∷ ‵ Own ∷ [])) (Post u)
+  exits r u e =
+      qed 𝓛 (‵ ((S.the_row).own_val r (u ∷ [])) ∷ (‵ (flft κ q) ⊛ ‵ ftrue) ∷ ‵ Own ∷ []) ∵
+      suffices ! _
+      (ends_at 𝓛 next.ended stayed (next.clauses 𝓛 mem run)
+      (((κ, tt), (q, tt), tt, (d, tt), (mach ∷ [], tt)), tt) u r (tt, tt) (tt, tt)) $
+      says ! e $ move ! (1 ∷ []) $ frame ! $ nothing ! $ move ! (2 ∷ 0 ∷ []) $ fjoin ! $ frame ! $ done !
+
+  module _ (C : Calls 𝓤 H) (Λ : Loops 𝓤 H) (fm : FmC 𝓤 H 𝓛.laws C)
+      (known : Triple 𝓤 (C #fields·field-at) (Callee 𝓛 mem run)) where
+    walk : d.at ≤ length d.plan.now → Holds (has_ty (T'.mir (named 0)) mach) × WT mach
+        → ent 𝓤 Pre (WpFn 𝓤 H C Λ code.function (mach ∷ []) Post)
+    walk within wt =
+        qed 𝓛 (raw Pre ∷ []) ∵
+        enter ! C Λ code.function (mach ∷ []) _ $
+        alloc1 ! (λ l₀. alloc1 ! (λ l₁. alloc1 ! (λ l₂. alloc1 ! (λ l₃. alloc0 ! $
+        params1 ! $ pass1 ! (init ! 4 refl wt) $ pass0 ! $
+        assigns ! (of_opd ! (load ! (from ! (fld ! refl (stop !))) (look_in ! 4 (sub ! 0 refl (whole !)))))
+        (from ! (stop !)) (init ! 2 refl (tt, wt.1.0)) $
+        assigns ! (of_opd ! (load ! (from ! (fld ! refl (stop !))) (look_in ! 4 (sub ! 1 refl (whole !)))))
+        (from ! (stop !)) (init ! 0 refl (tt, wt.1.1.0)) $
+        move ! (8 ∷ []) $
+        use1 𝓛 (raw ((Callee 𝓛 mem run).requires to) ⊛ ‵ Own) (apart wt.1.1.0.fits within) $ split ! $
+        calls_at ! fm (Callee 𝓛 mem run) known to
+        (and_then ! (load ! (from ! (stop !)) (look ! 4 refl))
+        (and_then ! (load ! (from ! (stop !)) (look ! 2 refl)) (no_more !)))
+        (λ u.
+        use1 𝓛
+        (later
+        (some (λ (r : FieldAt). ((‵ (flft κ q) ⊛ ‵ ftrue) ⊛ ‵ ((S.the_row).own_val r (u ∷ []))) ⊛ raw (Ensured r))))
+        (id⊢ 𝓤 _) $ await ! tt $ pick ! (λ r.
+        split ! $ move ! (1 ∷ []) $ use1 𝓛 (raw (fact 𝓤 (r ≡ found))) (said r) $ heard ! (r ≡ found) (λ e.
+        split ! $ move ! (1 ∷ []) $
+        -- [the result; the token; what the struct owns; _3; …; _2; …; _1; …; room for _0; …]
+        peeks ! S.the_row (Is S.the_row) (shows 𝓛 S.the_row) r (u ∷ []) (λ is.
+        land ! (from ! (stop !))
+        (init ! 9 refl ((EL.lawful S.the_type S'.the_laws 𝓛 tt).typed r _ is).0) $
+        returns ! (look ! 9 refl) $ forget ! 3 refl $ forget ! 5 refl $ forget ! 7 refl $ forget ! 9 refl $
+        move ! (9 ∷ 10 ∷ []) $ free1 ! $ move ! (7 ∷ 8 ∷ []) $ free1 ! $ move ! (5 ∷ 6 ∷ []) $ free1 ! $
+        move ! (3 ∷ 4 ∷ []) $ free1 ! $ free0 ! $ by ! (exits r u e)))))))))
+
+module _ {M : Type 1} {𝓤 : Ura M} (𝓛 : Logic 𝓤) (mem : Memory → SProp 𝓤)
+    (run : Routine → Fun 𝓤) where
+  open 𝓛 use {H}
+
+  next_walks : (C : Calls 𝓤 H) (Λ : Loops 𝓤 H) → FmC 𝓤 H 𝓛.laws C
+      → Triple 𝓤 (C #fields·field-at) (Callee 𝓛 mem run)
+      → Walks 𝓛 next.ended stayed (WpFn 𝓤 H C Λ code.function) (next.clauses 𝓛 mem run)
+  next_walks C Λ fm known =
+      walked 𝓛 next.ended stayed (next.clauses 𝓛 mem run) (WpFn 𝓤 H C Λ code.function)
+      (λ. (LL.vals (T.the_type (α)) (T'.the_laws (α)), tt))
+      (λ. (LL.tells (T.the_type (α)) (T'.the_laws (α)), tt))
+      (λ qs bounds a g are.
+      needs 𝓤 _ _ (λ within.
+      walk 𝓛 mem run.0 qs.0 a.0 C Λ fm known within
+      ((LL.lawful (T.the_type (α)) (T'.the_laws (α)) 𝓛).typed a.0 _ are.0).0))
+
+  next_meets : (𝓣 : Tables 𝓤 H) → Triple 𝓤 (𝓣.C #fields·field-at) (Callee 𝓛 mem run)
+      → Meets 𝓛 next.signature (WpFn 𝓤 H 𝓣.C 𝓣.Λ code.function) (next.spec 𝓛 mem run)
+  next_meets 𝓣 known =
+      walk_Meets 𝓛 next.ended stayed (Goes-none 𝓛 1 B yes (λ x f. refl), tt)
+      (next.clauses 𝓛 mem run) (WpFn 𝓤 H 𝓣.C 𝓣.Λ code.function)
+      (WpFn-mono 𝓤 H 𝓛.laws 𝓣 code.function) (next_walks 𝓣.C 𝓣.Λ (fm_of 𝓤 H 𝓛.laws 𝓣) known)
+
+pub next_spec : {M : Type 1} → stated.statement M
+unfolding code.routine tables_of
+next_spec 𝓤 𝓛 𝓜 𝓡 =
+    entered 𝓤 𝓛.H (triple_of 𝓛 next.signature (next.spec 𝓛 𝓜.mem 𝓡.run))
+    (tables 𝓤 𝓛.H 𝓜 𝓡 code.env).C (tables 𝓤 𝓛.H 𝓜 𝓡 code.env).Λ #fields·next code.function (code.unfolded 𝓤 𝓛.H 𝓜 𝓡)
+    (next_meets 𝓛 𝓜.mem 𝓡.run (tables_of 𝓤 𝓛.H 𝓜 (tables 𝓤 𝓛.H 𝓜 𝓡 code.env))
+    (cited 𝓤 𝓛.H (Callee 𝓛 𝓜.mem 𝓡.run) 𝓜 𝓡 code.env #fields·field-at callee-def.routine
+    code.calls-fields::field-at (callee-thm.met 𝓤 𝓛 𝓜 𝓡)))
