@@ -138,7 +138,7 @@ overflow_add-last c =
 pub returns-then-first-g : goal.returns-then-first-g
 returns-then-first-g c =
     let f = found c.before in
-    row_hung (held (hung f.before).before.before) f.runs_from-found.ensures f.if-g-first.left
+    row_hung (held (hung f.before).before.before) f.runs_from-found.ensures f.if-g-first.false
     (hangs_on c)
 
 pub run_with-requires : goal.run_with-requires
@@ -169,4 +169,4 @@ returns c =
     let f = found c.before.before.before in
     let h = hung f.before in
     row_across (held h.before.before) (stopping h) h.requires.0 f.runs_from-found.ensures
-    c.run_with.ensures f.if-g-first.left (apart c.before.before)
+    c.run_with.ensures f.if-g-first.false (apart c.before.before)

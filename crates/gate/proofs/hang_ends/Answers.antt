@@ -23,7 +23,7 @@ use Rattle.gate.proofs.Numbers.{
 }
 use Rattle.gate.proofs.Hangs.{slot_at, Held, hold, slot_in, Hangs, hangs_start, hangs_turn}
 use borrow.Author.Rules.{rules}
-use Rattle.gate.proofs.hang_ends.Goals.{At-loop-i, Joined-t-s, Start}
+use Rattle.gate.proofs.hang_ends.Goals.{At-loop-i, Joined-t-s, Start, then-t-s, else-t-s}
 use Rattle.gate.proofs.hang_ends.Goals as goal
 
 held : (c : Start) → Held c.args.g c.args.slots c.args.n
@@ -43,9 +43,10 @@ stored c =
     let t = (slot_at a.slots k.loop-i.i).start in
     let s = (slot_at a.slots (k.loop-i.i - 1)).end in
     let x = get_or k.loop-i.ends k.loop-i.i 0 in
-    ⊎_elim
-    (λ w. chosen_le t (s + reach_of a.g) x s w.0.taken w.1)
-    (λ w. else_le t (s + reach_of a.g) x s w.0.left w.1) c.if-t-s.branch
+    elim c.if-t-s.branch [
+      then-t-s w ↦ chosen_le t (s + reach_of a.g) x s w.if-t-s.true w.e-is
+    | else-t-s w ↦ else_le t (s + reach_of a.g) x s w.if-t-s.false w.e-is
+    ]
 
 -- the last slot's place, that of a turn's slot, and that before it
 last : (c : Start) → c.args.n - 1 < 32

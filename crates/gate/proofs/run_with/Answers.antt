@@ -19,7 +19,7 @@ use Rattle.gate.proofs.Numbers.{
   chosen_lt,
   else_lt,
 }
-use Rattle.gate.proofs.run_with.Goals.{Joined-first-g, Joined-s-g}
+use Rattle.gate.proofs.run_with.Goals.{Joined-first-g, Joined-s-g, then-s-g, else-s-g, then-first-g, else-first-g}
 use Rattle.gate.proofs.run_with.Goals as goal
 
 -- the start, by the test on the guard
@@ -31,9 +31,10 @@ start_is c =
     let a = c.args in
     let x = a.s.start + a.g.cycle - a.g.guard in
     let y = a.s.start - a.g.guard in
-    ⊎_elim
-    (λ w. chosen_lt a.s.start a.g.guard x y w.0.taken w.4)
-    (λ w. else_lt a.s.start a.g.guard x y w.0.left w.3) c.if-s-g.branch
+    elim c.if-s-g.branch [
+      then-s-g w ↦ chosen_lt a.s.start a.g.guard x y w.if-s-g.true w.start-is
+    | else-s-g w ↦ else_lt a.s.start a.g.guard x y w.if-s-g.false w.start-is
+    ]
 
 -- the stop, by the test on the first slot
 stop_is : (c : Joined-first-g)
@@ -43,9 +44,10 @@ stop_is c =
     let a = c.args in
     let x = a.first + a.g.cycle in
     let y = a.e + reach_of a.g in
-    ⊎_elim
-    (λ w. chosen_le x y (a.far + a.g.cycle) a.e w.0.taken w.2)
-    (λ w. else_le x y (a.far + a.g.cycle) a.e w.0.left w.1) c.if-first-g.branch
+    elim c.if-first-g.branch [
+      then-first-g w ↦ chosen_le x y (a.far + a.g.cycle) a.e w.if-first-g.true w.stop-is
+    | else-first-g w ↦ else_le x y (a.far + a.g.cycle) a.e w.if-first-g.false w.stop-is
+    ]
 
 -- it comes behind the slot's start, before the second cycle's end
 stop_in : (c : Joined-first-g)
@@ -53,7 +55,10 @@ stop_in : (c : Joined-first-g)
     (a.s.start ≤ c.if-first-g.stop) × (c.if-first-g.stop ≤ a.g.cycle + a.g.cycle)
 stop_in c =
     let p = c.requires in
-    ⊎_elim (λ w. stop_far p.4 p.3 p.2 w.2) (λ w. stop_near p.4 p.3 w.1) c.if-first-g.branch
+    elim c.if-first-g.branch [
+      then-first-g w ↦ stop_far p.4 p.3 p.2 w.stop-is
+    | else-first-g w ↦ stop_near p.4 p.3 w.stop-is
+    ]
 
 pub overflow_add-reach : goal.overflow_add-reach
 overflow_add-reach c = reach_fits c.requires.0
@@ -77,7 +82,7 @@ overflow_add-stop c = let p = c.requires in round_fits p.0 p.2
 
 pub overflow_add-result : goal.overflow_add-result
 overflow_add-result c =
-    far_fits c.requires.0 (stop_in c.before).1
+    far_fits c.requires.0 (stop_in c.before.before).1
 
 pub overflow_sub-result : goal.overflow_sub-result
 overflow_sub-result c = le_trans (stop_in c.before.before).0 (le-add_right _ _)

@@ -27,6 +27,7 @@ use Rattle.gate.proofs.Turns.{left, left_none, turn_wide, turn_narrow}
 use borrow.Author.Rules.{rules}
 use Rattle.gate.proofs.runs_from.Goals.{After-struct_known-in-loop-i-4-1, In-loop-i, Start, Then-end-reach}
 use Rattle.gate.proofs.runs_from.Goals as goal
+use Rattle.gate.proofs.runs_from.Goals.{then-end-reach, else-end-reach}
 
 held : (c : Start) → Held c.args.g c.args.slots c.args.n
 held c = hold c.requires.0 c.requires.1 (search rules) c.requires.3
@@ -88,12 +89,6 @@ overflow_add-s c =
     let i = inside h in
     round_fits h.requires.2 (start_in i.0 i.1 i.2)
 
-pub offset_bounds-ends-i : goal.offset_bounds-ends-i
-offset_bounds-ends-i c = end_fits (place (turn c))
-
-pub bounds-ends-i : goal.bounds-ends-i
-bounds-ends-i c = place (turn c)
-
 pub run_with-requires : goal.run_with-requires
 run_with-requires c =
     let h = turn c in
@@ -134,20 +129,20 @@ loop-i-preserved c =
     let k = h.before in
     let s = k.before.before.before in
     let here = inside h in
-    let more = next_in h.loop-i-test.taken in
+    let more = next_in h.loop-i-test.true in
     let on = end_in here.1 here.2 in
-    ⊎_elim
-    (λ w.
-    let (few, f) =
-    turn_wide (held s) (stopping s) k.loop-i.end k.loop-i.i h.loop-i-test.taken s.requires.1 k.loop-i.inv.2
-    k.loop-i.inv.3 w.0.taken w.1.ensures w.2 w.3 in
-    (more, on, few, f))
-    (λ w.
-    let (few, f) =
-    turn_narrow (held s) k.loop-i.end k.loop-i.i h.loop-i-test.taken k.loop-i.inv.2 k.loop-i.inv.3
-    w.0.left w.1 w.2 in
-    (more, on, few, f))
-    c.if-end-reach.branch
+    elim c.if-end-reach.branch [
+      then-end-reach w ↦
+        let (few, f) =
+            turn_wide (held s) (stopping s) k.loop-i.end k.loop-i.i h.loop-i-test.true s.requires.1
+            k.loop-i.invariant.2 k.loop-i.invariant.3 w.if-end-reach.true w.run_with.ensures w.row-is w.m-is in
+        (more, on, few, f)
+    | else-end-reach w ↦
+        let (few, f) =
+            turn_narrow (held s) k.loop-i.end k.loop-i.i h.loop-i-test.true k.loop-i.invariant.2
+            k.loop-i.invariant.3 w.if-end-reach.false w.row-is w.m-is in
+        (more, on, few, f)
+    ]
 
 pub returns : goal.returns
 returns c =

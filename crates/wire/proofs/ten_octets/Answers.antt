@@ -2,6 +2,7 @@
 use Rattle.meaning.specs.Wire.{ten_octets}
 use Rattle.wire.specs.Timing.{timed}
 use Rattle.wire.proofs.Rates.{listed, unlisted}
+use borrow.Author.Rules.{rules}
 use Rattle.wire.proofs.ten_octets.Goals as goal
 
 pub returns-in-1 : goal.returns-in-1
@@ -26,5 +27,4 @@ returns-in-5 c = listed _ 5 c.in-5.is
 
 pub returns-in_default : goal.returns-in_default
 returns-in_default c =
-    let r = c.in-1.rest in
-    unlisted _ _ r.0.0.0.0.1 r.0.0.0.1 r.0.0.1 r.0.1 r.1
+    unlisted _ _ (search rules) (search rules) (search rules) (search rules) (search rules)

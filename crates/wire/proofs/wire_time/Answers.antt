@@ -11,9 +11,7 @@ use Rattle.wire.proofs.wire_time.Goals as goal
 product : (c : In-Time)
     → (c.args.octets + 8) * c.in-Time.ten ≤ 34_359_738_432_000
 product c =
-    let h = c.before.before.before in
-    product_fits h.args.rate h.args.octets c.in-Time.ten (search rules)
-    (sym c.in-Time.is ∙ h.ten_octets-k.ensures)
+    product_fits c.args.rate c.args.octets c.in-Time.ten (search rules) c.in-Time.ensures
 
 pub overflow_mul-result : goal.overflow_mul-result
 overflow_mul-result c = omega (arith, product c)

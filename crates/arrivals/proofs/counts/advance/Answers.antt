@@ -29,7 +29,7 @@ pass-p-requires c =
 -- the counts at the loop's head
 abbrev seen : At-loop-least → Counts
 seen h =
-    record { load = h.loop.load; least = h.loop.least; shortest = h.args.seen.shortest }
+    record { load = h.loop-least.load; least = h.loop-least.least; shortest = h.args.seen.shortest }
 
 pub overflow_add-load : goal.overflow_add-load
 overflow_add-load c =
@@ -53,7 +53,7 @@ loop-least-smaller c =
     omega (
       arith,
       pass_rises a.per.now a.jit.now a.cost.now a.n s.requires.0 h.loop-least.next (seen h) a.x
-          h.loop-least.invariant r.new.0 r.result.load r.result.least r.ensures (omega arith) s.requires.1,
+          h.loop-least.invariant r.new.next r.result.load r.result.least r.ensures (omega arith) s.requires.1,
     )
 
 pub loop-least-preserved : goal.loop-least-preserved
@@ -64,7 +64,7 @@ loop-least-preserved c =
     let r = c.pass-p in
     rows_pass a.per.now a.jit.now a.cost.now a.n s.requires.0 h.loop-least.next (seen h) a.x
     h.loop-least.invariant
-    r.new.0 r.result.load r.result.least r.ensures a.seen.shortest
+    r.new.next r.result.load r.result.least r.ensures a.seen.shortest
 
 pub returns : goal.returns
 returns c = (c.loop-least.invariant, omega arith)
