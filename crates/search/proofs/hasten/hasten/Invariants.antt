@@ -1,0 +1,18 @@
+-- `search::hasten::hasten` meets its contract. The invariant: no number below w closes. The measure: how far w is
+-- from the horizon.
+use Prim.Native.Nat.{◌+◌, ◌-◌, ◌≤◌}
+use native.Mathlib.Nat.{le_trans}
+use native.Mathlib.Omega.{arith}
+use lib.Dec.{lit≤}
+use Rattle.laws.proofs.Leasts.{Under, under_zero, under_step}
+use Rattle.search.specs.Searches.{table_of, row_busy}
+use Rattle.search.proofs.Searching.{table_most, row_busy_mono, tried_under, under_below}
+use borrow.Author.Rules.{rules}
+use Rattle.search.proofs.hasten.hasten.Given as goal
+
+abbrev pub invariant-loop-w : goal.invariant-loop-w
+invariant-loop-w l =
+    Under (row_busy (table_of l.far l.tot l.g) l.per l.jit l.cost l.g.n l.own) l.w × (l.w ≤ 100_000_000)
+
+abbrev pub decreases-loop-w : goal.decreases-loop-w
+decreases-loop-w l = 100_000_000 - l.w

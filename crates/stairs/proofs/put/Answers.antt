@@ -1,0 +1,47 @@
+-- `stairs::put` meets its contract. The invariant: node k is low, and all nodes are right but the one above k.
+-- The measure: k.
+use mathlib.Core.Path.{◌≡◌, sym, ap, ◌∙◌}
+use mathlib.Core.List.{List}
+use Prim.Native.Nat.{ℕ, ◌+◌, ◌/◌, ◌≤◌, ◌<◌}
+use native.Mathlib.Omega.{arith}
+use lib.ListN.{length, get_or, length-set}
+use lib.Seq.{get_or-set_same}
+use borrow.Author.Rules.{rules}
+use Rattle.stairs.specs.Tree.{Nodes}
+use Rattle.stairs.proofs.Tree.{put_leaf, mend_node}
+use Rattle.stairs.proofs.put.Goals as goal
+
+pub loop-k-init : goal.loop-k-init
+loop-k-init c =
+    let a = c.args in (
+      omega arith,
+      omega (arith, c.requires.1),
+      length-set a.tree.now (32 + a.i) a.v ∙ c.requires.0,
+      get_or-set_same a.tree.now (32 + a.i) a.v 0 (omega (arith, c.requires.0, c.requires.1)),
+      λ keys s. s,
+    )
+
+pub loop-k-preserved : goal.loop-k-preserved
+loop-k-preserved c =
+    let l = c.loop-k in
+    let k = l.k in (
+      omega arith,
+      omega arith,
+      length-set l.tree (k / 2) c.lesser-low.result ∙ l.invariant.2,
+      get_or-set_same l.tree (k / 2) c.lesser-low.result 0 (omega (arith, l.invariant.2)),
+      λ keys s.
+          mend_node k l.low c.lesser-low.result (l.invariant.4 keys s) (omega arith) l.invariant.1 l.invariant.3
+          c.lesser-low.ensures,
+    )
+
+pub returns : goal.returns
+returns c =
+    let l = c.loop-k in
+    let a = c.args in
+    let e : l.k ≡ 1 = omega (arith, l.invariant.0) in (
+      sym l.invariant.3 ∙ ap (λ (x : ℕ). get_or l.tree x 0) e,
+      l.invariant.2,
+      λ keys s.
+          rw (ap (λ (x : ℕ). x / 2) e) at
+          (l.invariant.4 _ (put_leaf s a.i a.v c.requires.1 c.requires.2)),
+    )
