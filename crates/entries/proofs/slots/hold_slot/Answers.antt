@@ -42,7 +42,7 @@ returns-then-not-slot_in_range c =
     let b = t.before.before.before in
     refusal_edits (entries_at b) _ _ _ b.requires c.refuse-then-not-slot_in_range.ensures
     (add_slot_out_of_range (entries_at b) (slot_at b) (open_at t.before)
-    (sym t.slot_in_range.ensures ∙ c.if-not-slot_in_range.true)
+    (sym t.slot_in_range.ensures ∙ c.if-not-slot_in_range.true))
 
 pub narrow_slot-requires : goal.narrow_slot-requires
 narrow_slot-requires c =

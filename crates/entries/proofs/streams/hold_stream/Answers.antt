@@ -57,7 +57,7 @@ returns-then-not-stream_in_range c =
     let b = began t in
     refusal_edits (entries_at b) _ _ _ b.requires c.refuse-then-not-stream_in_range.ensures
     (add_stream_out_of_range (entries_at b) (stream_at b) (open_at t.before.before)
-    (sym (tested t) ∙ c.if-not-stream_in_range.true)
+    (sym (tested t) ∙ c.if-not-stream_in_range.true))
 
 pub narrow_stream-requires : goal.narrow_stream-requires
 narrow_stream-requires c =
