@@ -8,10 +8,10 @@ use Rattle.fields.proofs.Fronts.{number_in_value, whole_within, field_by_value}
 use Rattle.fields.proofs.slot_at.Goals as goal
 
 pub number4-requires : goal.number4-requires
-number4-requires c = omega (arith, whole_within c.args.plan.now c.args.at 8 c.requires.0 c.in-Whole.ensures)
+number4-requires c = omega (arith, whole_within c.args.plan.now c.args.at _ c.requires.0 c.in-Whole.ensures)
 
 pub number4-requires-in-Whole : goal.number4-requires-in-Whole
-number4-requires-in-Whole c = omega (arith, whole_within c.args.plan.now c.args.at 8 c.requires.0 c.in-Whole.ensures)
+number4-requires-in-Whole c = omega (arith, whole_within c.args.plan.now c.args.at _ c.requires.0 c.in-Whole.ensures)
 
 pub returns-in-Refused : goal.returns-in-Refused
 unfolding field_at value_length
@@ -22,7 +22,7 @@ returns-in-Refused c =
 pub returns-in-Whole : goal.returns-in-Whole
 unfolding field_at field_of value_length
 returns-in-Whole c =
-    let long = whole_within c.args.plan.now c.args.at 8 c.requires.0 c.in-Whole.ensures in
+    let long = whole_within c.args.plan.now c.args.at _ c.requires.0 c.in-Whole.ensures in
     let read = number_in_value c.args.plan.now c.args.at 8 long in
     (λ i.
     case.Slot
