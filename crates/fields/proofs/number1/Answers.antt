@@ -1,6 +1,5 @@
 -- `fields::number1` meets its contract: one octet.
 use native.Mathlib.Omega.{arith}
-use borrow.Author.Rules.{rules}
 use Rattle.fields.proofs.Fronts.{number_of_1}
 use Rattle.fields.proofs.number1.Goals as goal
 

@@ -1,6 +1,5 @@
 -- `fields::number2` meets its contract: two octets, the higher first.
 use native.Mathlib.Omega.{arith}
-use borrow.Author.Rules.{rules}
 use Rattle.fields.proofs.Fronts.{number_of_2}
 use Rattle.fields.proofs.number2.Goals as goal
 

@@ -1,6 +1,5 @@
 -- `fields::number4` meets its contract: four octets, the highest first.
 use native.Mathlib.Omega.{arith}
-use borrow.Author.Rules.{rules}
 use Rattle.fields.proofs.Fronts.{number_of_4}
 use Rattle.fields.proofs.number4.Goals as goal
 

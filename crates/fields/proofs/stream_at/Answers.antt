@@ -1,72 +1,42 @@
 -- `fields::stream_at` meets its contract: a whole value lies within the plan, and each number stands at its offset in
 -- it.
-use mathlib.Core.Path.{sym, ◌∙◌}
-use Prim.Native.Nat.{◌+◌, ◌≤◌}
-use native.Mathlib.Omega.{arith}
-use lib.ListN.{length}
-use borrow.Author.Rules.{rules}
+use Rattle.std.proofs.Common.{◌∙◌, arith}
 use Rattle.meaning.specs.Bytes.{value_length, field_of}
 use Rattle.fields.specs.declared.FieldAt.TheVariants as case
 use Rattle.fields.specs.declared.ValueAt.TheVariants as value
 use Rattle.fields.specs.Reading.{field_at}
 use Rattle.fields.proofs.Fronts.{number_in_value, whole_within, field_by_value}
-use Rattle.fields.proofs.stream_at.Goals.{In-Whole}
 use Rattle.fields.proofs.stream_at.Goals as goal
 
--- the value lies within the plan
-long : (c : In-Whole)
-    → c.args.at + 3 + 17 ≤ length c.args.plan.now
-long c =
-    let h = c.before.before.before.before in
-    whole_within h.args.plan.now h.args.at 17 h.requires.0
-    c.in-Whole.ensures
-
 pub number2-requires : goal.number2-requires
-number2-requires c = omega (arith, long c)
-
-pub overflow_add-value-in-Whole : goal.overflow_add-value-in-Whole
-overflow_add-value-in-Whole c = omega (arith, long c.before)
+number2-requires c = omega (arith, whole_within c.args.plan.now c.args.at _ c.requires.0 c.in-Whole.ensures)
 
 pub number1-requires : goal.number1-requires
-number1-requires c = omega (arith, long c.before)
-
-pub overflow_add-value-in-Whole-2 : goal.overflow_add-value-in-Whole-2
-overflow_add-value-in-Whole-2 c = omega (arith, long c.before.before)
+number1-requires c = omega (arith, whole_within c.args.plan.now c.args.at _ c.requires.0 c.in-Whole.ensures)
 
 pub number2-requires-in-Whole : goal.number2-requires-in-Whole
-number2-requires-in-Whole c = omega (arith, long c.before.before)
-
-pub overflow_add-value-in-Whole-3 : goal.overflow_add-value-in-Whole-3
-overflow_add-value-in-Whole-3 c = omega (arith, long c.before.before.before)
+number2-requires-in-Whole c = omega (arith, whole_within c.args.plan.now c.args.at _ c.requires.0 c.in-Whole.ensures)
 
 pub number4-requires : goal.number4-requires
-number4-requires c = omega (arith, long c.before.before.before)
-
-pub overflow_add-value-in-Whole-4 : goal.overflow_add-value-in-Whole-4
-overflow_add-value-in-Whole-4 c = omega (arith, long c.before.before.before.before)
+number4-requires c = omega (arith, whole_within c.args.plan.now c.args.at _ c.requires.0 c.in-Whole.ensures)
 
 pub number4-requires-in-Whole : goal.number4-requires-in-Whole
-number4-requires-in-Whole c = omega (arith, long c.before.before.before.before)
-
-pub overflow_add-value-in-Whole-5 : goal.overflow_add-value-in-Whole-5
-overflow_add-value-in-Whole-5 c = omega (arith, long c.before.before.before.before.before)
+number4-requires-in-Whole c = omega (arith, whole_within c.args.plan.now c.args.at _ c.requires.0 c.in-Whole.ensures)
 
 pub number4-requires-in-Whole-2 : goal.number4-requires-in-Whole-2
-number4-requires-in-Whole-2 c = omega (arith, long c.before.before.before.before.before)
+number4-requires-in-Whole-2 c = omega (arith, whole_within c.args.plan.now c.args.at _ c.requires.0 c.in-Whole.ensures)
 
 pub returns-in-Refused : goal.returns-in-Refused
 unfolding field_at value_length
 returns-in-Refused c =
-    let h = c.before.before.before.before.before in
-    field_by_value h.args.plan.now h.args.at 3 h.requires.0 h.requires.1 (omega arith) (value.Refused _)
+    field_by_value c.args.plan.now c.args.at 3 c.requires.0 c.requires.1 (omega arith) (value.Refused _)
     c.in-Refused.ensures
 
 pub returns-in-Whole : goal.returns-in-Whole
 unfolding field_at field_of value_length
 returns-in-Whole c =
-    let d = c.before.before.before.before.before.before in
-    let h = d.before.before.before.before in
-    let read = number_in_value h.args.plan.now h.args.at 17 (long d) in
+    let long = whole_within c.args.plan.now c.args.at _ c.requires.0 c.in-Whole.ensures in
+    let read = number_in_value c.args.plan.now c.args.at 17 long in
     (λ i.
     case.Stream
     (record {
@@ -77,5 +47,5 @@ returns-in-Whole c =
       jitter = (c.number4-in-Whole.ensures ∙ read 9 4 _ (omega arith) (omega arith)) i;
       deadline = (c.number4-in-Whole-2.ensures ∙ read 13 4 _ (omega arith) (omega arith)) i;
     }))
-    ∙ field_by_value h.args.plan.now h.args.at 3 h.requires.0 h.requires.1 (omega arith) value.Whole
-    (sym d.in-Whole.is ∙ d.value_at-whole.ensures)
+    ∙ field_by_value c.args.plan.now c.args.at 3 c.requires.0 c.requires.1 (omega arith) value.Whole
+    c.in-Whole.ensures

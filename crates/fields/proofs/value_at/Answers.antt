@@ -1,6 +1,5 @@
 -- `fields::value_at` meets its contract: the wrong length, the value cut, the value whole.
-use mathlib.Core.Path.{sym, ◌∙◌}
-use borrow.Author.Rules.{rules}
+use Rattle.std.proofs.Common.{sym, ◌∙◌, arith}
 use Rattle.fields.proofs.Fronts.{value_wrong, value_cut, value_whole}
 use Rattle.fields.proofs.value_at.Goals as goal
 
@@ -11,12 +10,10 @@ returns-then-number2-octets c =
 
 pub returns-then-plan-at : goal.returns-then-plan-at
 returns-then-plan-at c =
-    let d = c.before.before in
-    let a = d.args in
-    value_cut a.plan.now a.at a.octets (sym d.number2.ensures ∙ c.if-number2-octets.false) c.if-plan-at.true
+    let a = c.args in
+    value_cut a.plan.now a.at a.octets (sym c.number2.ensures ∙ c.if-number2-octets.false) (omega arith)
 
 pub returns : goal.returns
 returns c =
-    let d = c.before.before in
-    let a = d.args in
-    value_whole a.plan.now a.at a.octets (sym d.number2.ensures ∙ c.if-number2-octets.false) c.if-plan-at.false
+    let a = c.args in
+    value_whole a.plan.now a.at a.octets (sym c.number2.ensures ∙ c.if-number2-octets.false) (omega arith)
