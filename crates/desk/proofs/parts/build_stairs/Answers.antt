@@ -5,7 +5,7 @@ use Rattle.desk.specs.Edits.{accepting, answered}
 use Rattle.desk.proofs.parts.build_stairs.Goals as goal
 
 pub with_stairs-requires : goal.with_stairs-requires
-with_stairs-requires c = let b = c.before.before.before in (b.requires.0, b.requires.1 c.in-Accepted.is)
+with_stairs-requires c = (c.requires.0, c.requires.1 c.in-Accepted.is)
 
 pub returns-in-Accepted : goal.returns-in-Accepted
 unfolding answered
