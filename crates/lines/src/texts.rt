@@ -8,7 +8,8 @@ pub fn put_word(out: &mut [u8], word: &[u8]) -> usize
     requires { length word.now ≤ length out.old }
     ensures { Wrote word.now result out.old out.new }
 {
-    bytes::copy(word, out)
+    out[..word.len()].copy_from_slice(word);
+    word.len()
 }
 
 // How many digits a number has.

@@ -1,5 +1,4 @@
 -- `reader::finish` meets its contract: where a port is open the plan is read, with the stairs of its slots.
--- Assumes nothing.
 use mathlib.Core.Path.{sym, ap, ◌∙◌}
 use mathlib.Core.List.{[]}
 use borrow.Author.Rules.{rules}
@@ -12,34 +11,27 @@ use Rattle.desk.specs.Desks.{desk_of}
 use Rattle.reader.specs.declared.ReadReply.{ReadReply}
 use Rattle.reader.specs.declared.ReadAnswer.TheVariants.{Read}
 use Rattle.reader.specs.Reading.{read_reply}
-use Rattle.reader.proofs.finish.Statement.{statement}
-use Rattle.reader.proofs.finish.Tie as tie
+use Rattle.reader.proofs.finish.Goals as goal
 
-refused-at-requires : tie.Need-refused-at-requires
-refused-at-requires c κs = search rules
-
-returns : tie.Need-returns
+pub returns-then-not-e : goal.returns-then-not-e
 unfolding ended
-returns c =
-    let a = c.before.before.before.args in
-    let shut = held_bare a.e (not-true _ c.before.if1.true) in
-    let (same, fit) = c.refused-at.ensures in
+returns-then-not-e c =
+    let a = c.args in
+    let shut = held_bare a.e (not-true _ c.if-not-e.true) in
+    let (same, fit) = c.refused_at.ensures in
     (same ∙ sym (ap (λ (x : Plan). read_reply (ended (going a.at [] x))) shut), fit)
 
-with-stairs-requires : tie.Need-with-stairs-requires
-with-stairs-requires c κs = (c.before.before.requires, not-false _ c.if1.false)
+pub with_stairs-requires : goal.with_stairs-requires
+with_stairs-requires c = (c.requires, not-false _ c.if-not-e.false)
 
-returns-2 : tie.Need-returns-2
+pub returns : goal.returns
 unfolding ended desk_read
-returns-2 c =
+returns c =
     let b = c.before.before.before in
     let a = b.args in
-    let (same, fit) = c.with-stairs.ensures in
-    let h = (open_entries a.e b.requires (not-false _ c.before.if1.false)).holds in
+    let (same, fit) = c.with_stairs.ensures in
+    let h = (open_entries a.e b.requires (not-false _ c.if-not-e.false)).holds in
     let with_it : Desk → ReadReply = λ x. record { answer = Read; desk = x } in (
       ap with_it (same ∙ ap desk_of h) ∙ sym (ap (λ (x : Plan). read_reply (ended (going a.at [] x))) h),
       fit,
     )
-
-pub finish_spec : {M : Type 1} → statement M
-finish_spec = tie.close (tie.spec refused-at-requires returns with-stairs-requires returns-2)

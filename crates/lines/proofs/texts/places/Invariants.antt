@@ -1,0 +1,16 @@
+-- `lines::texts::places` meets its contract: a digit for each division by ten.
+use mathlib.Core.Path.{◌≡◌, ap}
+use Prim.Native.Nat.{◌+◌, ◌≤◌, ◌<◌}
+use native.Mathlib.Omega.{arith}
+use lib.ListN.{length}
+use borrow.Author.Rules.{rules}
+use Rattle.meaning.specs.Findings.{decimal}
+use Rattle.meaning.proofs.Decimals.{decimal_small, decimal_one_more, decimal_some}
+use Rattle.lines.proofs.Digits.{at_most_20}
+use Rattle.lines.proofs.texts.places.Given as goal
+
+abbrev pub invariant-loop-rest : goal.invariant-loop-rest
+invariant-loop-rest l = (1 ≤ l.k) × (l.k + length (decimal l.rest) ≡ length (decimal l.n) + 1)
+
+abbrev pub decreases-loop-rest : goal.decreases-loop-rest
+decreases-loop-rest l = l.rest
