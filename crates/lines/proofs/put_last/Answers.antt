@@ -1,6 +1,5 @@
 -- `lines::put_last` meets its contract: the line's end fills the front of what the number leaves.
 use native.Mathlib.Omega.{arith}
-use borrow.Author.Rules.{rules}
 use Rattle.meaning.specs.Findings.{octets_in, newline}
 use Rattle.lines.proofs.Written.{wrote_next}
 use Rattle.lines.proofs.put_last.Goals as goal

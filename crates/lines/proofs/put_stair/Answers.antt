@@ -1,5 +1,4 @@
 -- `lines::put_stair` meets its contract: the line's last part fills the front of what is left.
-use borrow.Author.Rules.{rules}
 use Rattle.meaning.specs.Findings.{octets_in, told, newline, stair_line}
 use Rattle.lines.proofs.Written.{wrote_last}
 use Rattle.lines.proofs.put_stair.Goals as goal

@@ -1,5 +1,4 @@
 -- `lines::put_stream` meets its contract: each part of the line fills the front of what is left.
-use borrow.Author.Rules.{rules}
 use Rattle.meaning.specs.Findings.{octets_in, told, newline}
 use Rattle.lines.specs.Texts.{figure_line}
 use Rattle.lines.proofs.Written.{wrote_next}

@@ -4,10 +4,9 @@ use mathlib.Core.List.{◌++◌}
 use Prim.Native.Nat.{ℕ, ◌/◌}
 use native.Mathlib.Omega.{arith}
 use lib.ListN.{drop}
-use borrow.Author.Rules.{rules}
 use Rattle.meaning.specs.Findings.{decimal}
 use Rattle.meaning.proofs.Decimals.{decimal_some, decimal_one_more}
-use Rattle.lines.proofs.Digits.{Behind, behind_start, behind_turn, behind_end}
+use Rattle.lines.proofs.Digits.{behind_start, behind_turn, behind_end}
 use Rattle.lines.proofs.texts.put_decimal.Goals as goal
 
 pub overflow_sub-i : goal.overflow_sub-i

@@ -1,6 +1,5 @@
 -- `lines::texts::put_told` meets its contract: the number fills the front of what the word leaves.
 use native.Mathlib.Omega.{arith}
-use borrow.Author.Rules.{rules}
 use Rattle.lines.proofs.Written.{wrote_next}
 use Rattle.lines.proofs.texts.put_told.Goals as goal
 
