@@ -6,7 +6,5 @@ use Rattle.lines.proofs.put_refusal.Goals as goal
 pub returns : goal.returns
 unfolding refused_line told newline octets_in
 returns c =
-    let second = c.before.before in
-    let first = second.before.before.before.before.before in
-    let a = first.args in
-    wrote_last (told " at " a.place) newline first.put_told-at.ensures.0 second.put_last.ensures.0
+    let a = c.args in
+    wrote_last (told " at " a.place) newline c.put_told-at.ensures.0 c.put_last.ensures.0

@@ -5,7 +5,5 @@ use Rattle.lines.proofs.texts.put_told.Goals as goal
 
 pub returns : goal.returns
 returns c =
-    let second = c.before.before in
-    let first = second.before.before.before.before in
-    let a = first.args in
-    (wrote_next first.put_word-at.ensures second.put_decimal.ensures, omega arith)
+    let a = c.args in
+    (wrote_next c.put_word-at.ensures c.put_decimal.ensures, omega arith)
