@@ -1,6 +1,6 @@
 -- The words of a figure, case by case, and the octets that lines have.
 -- Assumes nothing.
-use mathlib.Core.Path.{◌≡◌, refl, ap, ◌∙◌}
+use mathlib.Core.Path.{◌≡◌, ap, ◌∙◌}
 use mathlib.Core.List.{List, [], ◌++◌}
 use Prim.Native.Nat.{ℕ, ◌+◌}
 use native.Mathlib.Omega.{arith}
@@ -12,12 +12,6 @@ use Rattle.meaning.specs.Findings.{octets_in, decimal, told}
 use Rattle.answers.specs.declared.Figure.{Figure}
 use Rattle.answers.specs.declared.Figure.TheVariants as Figures
 use Rattle.lines.specs.Texts.{refusal_words, figure_words}
-
--- a refusal that isn't late carries no value
-pub none_but_late : (why : Refusal) → ((bound : ℕ) → why ≡ Late bound → ⊥) → values_of why ≡ []
-unfolding values_of
-none_but_late (Late b) h = absurd (h b refl)
-none_but_late why h = refl
 
 module _ (deadline : ℕ) (figure : Figure) where
   pub bound_words : (b : ℕ) → figure ≡ Figures.Is b

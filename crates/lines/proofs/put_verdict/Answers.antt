@@ -1,7 +1,8 @@
 -- `lines::put_verdict` meets its contract: the words of each case.
 use native.Mathlib.Omega.{arith}
 use Rattle.meaning.specs.Findings.{octets_in, told}
-use Rattle.lines.proofs.Words.{none_but_late, bound_words, late_words, endless_words}
+use Rattle.answers.proofs.Carried.{none_but_late}
+use Rattle.lines.proofs.Words.{bound_words, late_words, endless_words}
 use Rattle.lines.proofs.Words.{bound_length, late_length, endless_length}
 use Rattle.lines.proofs.put_verdict.Goals as goal
 
