@@ -37,4 +37,5 @@ none_but_late OverHorizon h = refl
 pub carries_none : (why : Refusal) → OneOf other_tags (tag_of the_type why) → values_of why ≡ []
 carries_none why h =
     none_but_late why
-    (λ (x : ℕ) (e : why ≡ Late x). miss other_tags 12 tt (subst (λ (w : Refusal). OneOf other_tags (tag_of the_type w)) e h))
+    (λ (x : ℕ) (e : why ≡ Late x).
+    miss other_tags 12 tt (subst (λ (w : Refusal). OneOf other_tags (tag_of the_type w)) e h))

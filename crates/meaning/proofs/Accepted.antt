@@ -114,7 +114,8 @@ one_more octets d c f e q p =
 
 -- the front is read, where there are octets, and its edit made
 one_turn : (octets : List ℕ) (d : Desk)
-    → ((f : Field) (c : Desk) → field_length f ≤ length octets → Parts (drop (field_length f) octets) c) → Parts octets d
+    → ((f : Field) (c : Desk) → field_length f ≤ length octets → Parts (drop (field_length f) octets) c)
+    → Parts octets d
 one_turn [] d later = none_yet [] d (inl refl)
 one_turn (x ∷ xs) d later = by_front (front (x ∷ xs)) refl
   where
@@ -206,7 +207,8 @@ pub refused_when : (octets : List ℕ) (r : Refusal) (place : ℕ)
 unfolding read_plan walk ended
 refused_when octets r place = (λ e. to e (answered octets), ⊎_elim empty at_field)
   where
-    to : read_plan octets ≡ refused_at r place → Answered octets → EmptyPlan octets r place ⊎ RefusedField octets r place
+    to : read_plan octets ≡ refused_at r place → Answered octets
+        → EmptyPlan octets r place ⊎ RefusedField octets r place
     to e (reads c a _) = absurd (read≢refused_at (sym a ∙ e))
     to e (refuses s at a w) = subst₂ (λ x k. EmptyPlan octets x k ⊎ RefusedField octets x k) (cc) (cc) w
 

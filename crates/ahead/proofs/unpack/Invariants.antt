@@ -7,7 +7,8 @@ use Rattle.ahead.proofs.unpack.Given as goal
 abbrev pub invariant-loop-i : goal.invariant-loop-i
 invariant-loop-i l =
     (l.i ≤ l.n) × (l.k ≤ l.i)
-    × (record { n = l.k; per = l.per; jit = l.jit; cost = l.cost; lower = l.lower } ≡ up_to l.rate l.own l.leave l.streams l.i)
+    × (record { n = l.k; per = l.per; jit = l.jit; cost = l.cost; lower = l.lower }
+    ≡ up_to l.rate l.own l.leave l.streams l.i)
 
 abbrev pub decreases-loop-i : goal.decreases-loop-i
 decreases-loop-i l = l.n - l.i

@@ -103,7 +103,8 @@ worst-requires c =
       beside_in (table_of a.far.now a.tot.now a.g) a.own a.per.now a.jit.now a.cost.now
           a.g.n
           w.window-b.result w.window-b.ensures.0 f.if-b-gt-HORIZON.false p.own_fits
-          (f.frames_in.result + 1 - f.frames_in-first.result) e.enough-few.result (counts_apart _ _ _ _ f.frames_in.ensures.0 f.frames_in-first.ensures.0)
+          (f.frames_in.result + 1 - f.frames_in-first.result) e.enough-few.result
+          (counts_apart _ _ _ _ f.frames_in.ensures.0 f.frames_in-first.ensures.0)
           e.enough-few.ensures.1 p.beside,
     )
 
@@ -118,6 +119,7 @@ returns c =
     bound_within (table_of a.far.now a.tot.now a.g) a.own a.per.now a.jit.now a.cost.now
     a.g.n
     w.window-b.result w.window-b.ensures.0 f.if-b-gt-HORIZON.false p.own_fits
-    (f.frames_in.result + 1 - f.frames_in-first.result) e.enough-few.result (counts_apart _ _ _ _ f.frames_in.ensures.0 f.frames_in-first.ensures.0) e.enough-few.ensures.1
+    (f.frames_in.result + 1 - f.frames_in-first.result) e.enough-few.result
+    (counts_apart _ _ _ _ f.frames_in.ensures.0 f.frames_in-first.ensures.0) e.enough-few.ensures.1
     p.v_spreads (replicate 64 0) (zeros_in a.g.n p.rows_fit.few) e.enough-few.ensures.0 c.worst.result
     c.worst.ensures

@@ -5,7 +5,8 @@ use lib.ListN.{get_or}
 use Rattle.meaning.proofs.ChainCells.{reach_of}
 use Rattle.gate.specs.Rows.{no_run}
 use Rattle.laws.proofs.Filling.{filling_start}
-use Rattle.gate.proofs.Numbers.{reach_fits, round_fits, far_fits, slot_fits, next_fits, place_in, row_in, less_left, next_in, start_in, end_in, guard_in}
+use Rattle.gate.proofs.Numbers.{reach_fits, round_fits, far_fits, slot_fits, next_fits, place_in, row_in, less_left}
+use Rattle.gate.proofs.Numbers.{next_in, start_in, end_in, guard_in}
 use Rattle.gate.proofs.Rows.{row_filled}
 use Rattle.gate.proofs.Hangs.{slot_at, Held, hold, Stopping, stop_all, stop_in}
 use Rattle.gate.proofs.Turns.{left_none, turn_wide, turn_narrow}

@@ -8,7 +8,8 @@ use Rattle.gate.proofs.some_free.Given as goal
 
 abbrev pub invariant-loop-i : goal.invariant-loop-i
 invariant-loop-i l =
-    (l.i ≤ l.n) × (l.before ≤ l.g.cycle + l.g.cycle) × (has_free l.g (take l.n l.slots) ≡ some_left l.g l.slots l.n l.before l.i)
+    (l.i ≤ l.n) × (l.before ≤ l.g.cycle + l.g.cycle) × (has_free l.g (take l.n l.slots)
+    ≡ some_left l.g l.slots l.n l.before l.i)
 
 abbrev pub decreases-loop-i : goal.decreases-loop-i
 decreases-loop-i l = l.n - l.i

@@ -15,11 +15,10 @@ stored_figure-v-requires c =
 
 pub returns-then-d : goal.returns-then-d
 unfolding horizon
-returns-then-d c =
-    (
-      figure_open c.args.d c.requires c.args.t c.if-d.true c.if-t-gt-HORIZON.false _ c.stored_figure-v.ensures,
-      c.requires,
-    )
+returns-then-d c = (
+  figure_open c.args.d c.requires c.args.t c.if-d.true c.if-t-gt-HORIZON.false _ c.stored_figure-v.ensures,
+  c.requires,
+)
 
 pub returns : goal.returns
 returns c = (figure_closed c.args.d c.requires c.args.t c.if-d.false, c.requires)

@@ -36,7 +36,7 @@ returns-in-Refused c =
 pub loop-at-smaller : goal.loop-at-smaller
 loop-at-smaller c =
     let on =
-        went_on c.args.plan.now c.loop-at.at c.loop-at.e _ c.loop-at-test.true c.walk_on-w.ensures.0 c.in_default.is in
+    went_on c.args.plan.now c.loop-at.at c.loop-at.e _ c.loop-at-test.true c.walk_on-w.ensures.0 c.in_default.is in
     omega (arith, on.0, c.loop-at.invariant.1, c.loop-at-test.true)
 
 pub loop-at-preserved : goal.loop-at-preserved

@@ -12,7 +12,7 @@ pub overflow_add-behind : goal.overflow_add-behind
 overflow_add-behind c =
     let a = c.args in
     let l : a.at + c.octets_at.result ≤ length a.plan.now =
-        rw c.octets_at.ensures (octets_within a.plan.now a.at _ c.step-f.ensures (omega (arith, c.requires.0))) in
+    rw c.octets_at.ensures (octets_within a.plan.now a.at _ c.step-f.ensures (omega (arith, c.requires.0))) in
     search (rules, l)
 
 pub returns-in-Accepted : goal.returns-in-Accepted

@@ -21,8 +21,12 @@ attempt-t-requires c =
 pub returns-then-t-w : goal.returns-then-t-w
 returns-then-t-w c =
     let t = c.before.before.before in
-    let h = t.before.before in
-    (t.attempt-t.ensures.0, h.loop-w.invariant.2, search_closes h.loop-w.invariant.1 t.attempt-t.ensures.1 (omega arith))
+    let h = t.before.before in (
+      t.attempt-t.ensures.0,
+      h.loop-w.invariant.2,
+      search_closes h.loop-w.invariant.1 t.attempt-t.ensures.1
+          (omega arith),
+    )
 
 -- where w does not close, no number below what was asked for does
 goes_on : (c : After-struct_known-in-loop-w-1)

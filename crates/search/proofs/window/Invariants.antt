@@ -8,7 +8,8 @@ use Rattle.search.proofs.window.Given as goal
 
 abbrev pub invariant-loop-w : goal.invariant-loop-w
 invariant-loop-w l =
-    RowsCounted l.per l.jit l.cost l.g.n l.next l.seen l.w × Under (row_busy (table_of l.far l.tot l.g) l.per l.jit l.cost l.g.n l.own) l.w
+    RowsCounted l.per l.jit l.cost l.g.n l.next l.seen l.w × Under
+    (row_busy (table_of l.far l.tot l.g) l.per l.jit l.cost l.g.n l.own) l.w
     × (l.w ≤ 100_000_000)
 
 abbrev pub decreases-loop-w : goal.decreases-loop-w

@@ -8,7 +8,8 @@ use Rattle.stairs.proofs.merge_rows.Given as goal
 
 abbrev pub invariant-loop-low : goal.invariant-loop-low
 invariant-loop-low l =
-    Standing l.cycle (runs_in l.start l.len l.n) l.pos l.tree × SoFar l.cycle (runs_in l.start l.len l.n) l.pos l.far l.tot l.made l.top
+    Standing l.cycle (runs_in l.start l.len l.n) l.pos l.tree
+    × SoFar l.cycle (runs_in l.start l.len l.n) l.pos l.far l.tot l.made l.top
     × (l.low ≡ get_or l.tree 1 0)
 
 abbrev pub decreases-loop-low : goal.decreases-loop-low
