@@ -1,6 +1,5 @@
 -- `answers::number` meets its contract: one number for each refusal.
 use mathlib.Core.Path.{sym, ap}
-use borrow.Author.Rules.{rules}
 use Rattle.meaning.specs.Refusals.{number_of}
 use Rattle.answers.proofs.number.Goals as goal
 
