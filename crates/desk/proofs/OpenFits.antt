@@ -96,7 +96,7 @@ module _ (d : Desk) (f : Fit d) (o : d.opened ≡ true) where
         few_slots = entries_open.slots_few;
         streams_count = entries_open.streams_count;
         few_streams = entries_open.streams_few;
-        gate_fits = gate_fits (port_in d) (streams_in d) sound_open.port_in_lem;
+        gate_fits = gate_fits (port_in d) (streams_in d) sound_open.port_in;
         chain = chain_open;
         few_runs = few;
         table = ap table_in filled_open;

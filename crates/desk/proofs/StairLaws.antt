@@ -45,7 +45,7 @@ runs_fit : (p : Port) (ss : List Slot) (js : List Stream) → Sound p ss js
     → RunsFit (gate_of p js).cycle (runs (gate_of p js) ss)
 unfolding most_slots
 runs_fit p ss js s =
-    slots_fit (gate_of p js) ss (gate_fits p js s.port_in_lem).cycle_most s.few_slots
+    slots_fit (gate_of p js) ss (gate_fits p js s.port_in).cycle_most s.few_slots
     (gate_chain p js ss s.chain) s.some_free
 
 -- what a row of runs holds
@@ -77,7 +77,7 @@ module _ (e : Entries) (h : Open e) (g : Gate) (q : g ≡ gate_in e) where
   may_find =
       rw q (
         h.slots_few,
-        gate_fits (port_in e) (streams_in e) h.sound.port_in_lem,
+        gate_fits (port_in e) (streams_in e) h.sound.port_in,
         gate_chain (port_in e) (streams_in e) (slots_in e) h.sound.chain,
       )
 

@@ -49,7 +49,7 @@ module _ (e : Entries) (s : Slot) where
       pub slot_in_32_bits : (s.start < 4_294_967_296) × (s.end < 4_294_967_296)
       slot_in_32_bits =
           let b = (slot_in e.cycle s).0 r in
-          let c = (port_in_lem (port_in e)).0 h.sound.port_in_lem in
+          let c = (port_in_lem (port_in e)).0 h.sound.port_in in
           (omega arith, omega arith)
 
       pub add_slot_full : 32 ≤ e.nslots → add_slot s (held_in e) ≡ refused Full
@@ -97,7 +97,7 @@ module _ (e : Entries) (s : Slot) where
             let apart = (any_false (overlaps s) (slots_in e)).0 o in
             rw (q, taken) (
               omega arith,
-              gate_fits (port_in e) (streams_in e) h.sound.port_in_lem,
+              gate_fits (port_in e) (streams_in e) h.sound.port_in,
               gate_chain (port_in e) (streams_in e) (with_slot s (slots_in e))
                   (chain_insert s 0 e.cycle (slots_in e) zero-le b c apart h.sound.chain),
             )

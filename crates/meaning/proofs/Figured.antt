@@ -283,12 +283,12 @@ sound_f : Sound port_f slots_f (stream_f₁ ∷ stream_f₂ ∷ [])
 unfolding port_ranges stream_ranges octet_limit most_slots most_streams every
 sound_f =
     record {
-      port_in_lem = refl;
+      port_in = refl;
       few_slots = lit≤ tt;
       chain = omega arith;
       some_free = free_f;
       few_streams = lit≤ tt;
-      streams_in_lem = each;
+      streams_in = each;
       ids_rise = (λ j m. in_cons m (rises j) (λ k. mem_none k), (λ j m. mem_none m, tt));
     }
   where

@@ -53,7 +53,7 @@ rebuilt {A} field desk all each = go [] all refl
 module _ (p : Port) (ss : List Slot) (js : List Stream) (sound : Sound p ss js) where
   opens : edit (port_field p) bare ≡ accepted (opened p [] [])
   unfolding edit open_port unless
-  opens = rw sound.port_in_lem
+  opens = rw sound.port_in
 
   -- the gate's numbers are in force before the streams are there
   free_at_first : has_free (gate_of p []) ss ≡ true
@@ -99,7 +99,7 @@ module _ (p : Port) (ss : List Slot) (js : List Stream) (sound : Sound p ss js) 
   unfolding edit add_stream unless
   stream_behind before j rest e =
       rw (
-        sound.streams_in_lem j (rw e (Memᴰ.append_right before (mem_head j rest))),
+        sound.streams_in j (rw e (Memᴰ.append_right before (mem_head j rest))),
         lt-leb most_streams (length before)
             (omega (arith, sound.few_streams, ap length e, length-append before (j ∷ rest))),
         (any_false (λ (x : Stream). eqb x.id j.id) before).1
@@ -124,20 +124,20 @@ module _ (p : Port) (ss : List Slot) (js : List Stream) (sound : Sound p ss js) 
   pub fields_fit : (f : Field) → Mem f (fields_of (opened p ss js)) → FieldFits f
   unfolding fields_of
   fields_fit f m =
-      ⊎_elim (λ (e : f ≡ port_field p). rw e (let h = (port_in_lem p).0 sound.port_in_lem in omega arith))
+      ⊎_elim (λ (e : f ≡ port_field p). rw e (let h = (port_in_lem p).0 sound.port_in in omega arith))
       (λ k. ⊎_elim slots streams (Memᴰ.append_cases (map slot_field ss) k)) (Memᴰ.cases_cons m)
     where
       slots : Mem f (map slot_field ss) → FieldFits f
       slots k =
           let (s, i, e) = Memᴰ.of_map slot_field ss k in
           let h = chain_mem 0 ss p.cycle sound.chain s i in
-          let c = (port_in_lem p).0 sound.port_in_lem in
+          let c = (port_in_lem p).0 sound.port_in in
           rw (← e) (omega arith)
 
       streams : Mem f (map stream_field js) → FieldFits f
       streams k =
           let (j, i, e) = Memᴰ.of_map stream_field js k in
-          let h = (stream_in (octet_limit p) j).0 (sound.streams_in_lem j i) in
+          let h = (stream_in (octet_limit p) j).0 (sound.streams_in j i) in
           rw (← e) (omega (arith, octet_limit_most p))
 
 -- a sound desk that is written and read is the same desk

@@ -128,12 +128,12 @@ open_sound p bare e h a =
     let (r, q) = ((open_says p).accepts e).0 a in
     rw q
     (record {
-      port_in_lem = r;
+      port_in = r;
       few_slots = zero-le;
       chain = zero-le;
       some_free = no_slots_free (gate_of p []) (gate_has_cells p [] r);
       few_streams = zero-le;
-      streams_in_lem = λ j m. mem_none m;
+      streams_in = λ j m. mem_none m;
       ids_rise = tt;
     })
 
@@ -142,12 +142,12 @@ with_slots : (p : Port) (ss ts : List Slot) (js : List Stream) → Sound p ss js
     → Chain 0 ts p.cycle → has_free (gate_of p js) ts ≡ true → Sound p ts js
 with_slots p ss ts js h few links free =
     record {
-      port_in_lem = h.port_in_lem;
+      port_in = h.port_in;
       few_slots = few;
       chain = links;
       some_free = free;
       few_streams = h.few_streams;
-      streams_in_lem = h.streams_in_lem;
+      streams_in = h.streams_in;
       ids_rise = h.ids_rise;
     }
 
@@ -181,12 +181,12 @@ with_streams : (p : Port) (ss : List Slot) (js ks : List Stream) → Sound p ss 
     → Sound p ss ks
 with_streams p ss js ks h few each rises =
     record {
-      port_in_lem = h.port_in_lem;
+      port_in = h.port_in;
       few_slots = h.few_slots;
       chain = h.chain;
       some_free = rw (gate_of_streams p ks js) h.some_free;
       few_streams = few;
-      streams_in_lem = each;
+      streams_in = each;
       ids_rise = rises;
     }
 
@@ -198,7 +198,7 @@ add_stream_sound j (opened p ss js) e h a =
     rw q
     (with_streams p ss js (with_stream j js) h
     (omega (arith, length_insert_by (λ x. x.id) j js))
-    (λ k m. ⊎_elim (λ (t : k ≡ j). rw t r) (h.streams_in_lem k) ((mem_insert_by (λ x. x.id) j js k).0 m))
+    (λ k m. ⊎_elim (λ (t : k ≡ j). rw t r) (h.streams_in k) ((mem_insert_by (λ x. x.id) j js k).0 m))
     (insert_by_rises (λ x. x.id) j js h.ids_rise
     (λ k m t. eqb-false k.id j.id ((any_false _ js).0 clear k m) (sym t))))
 
@@ -211,5 +211,5 @@ remove_stream_sound id (opened p ss js) e h a =
     rw q
     (with_streams p ss js (keep stays js) h
     (le_trans (keep_shorter stays js) h.few_streams)
-    (λ j m. h.streams_in_lem j ((keep_mem stays js j).0 m).0)
+    (λ j m. h.streams_in j ((keep_mem stays js j).0 m).0)
     (keep_rises (λ x. x.id) stays js h.ids_rise))

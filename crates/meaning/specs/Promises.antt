@@ -90,12 +90,12 @@ pub record IsBound (rate : ℕ) (v : ℕ → ℕ) (L : ℕ) (rest : List Stream)
 
 -- what every call keeps of an open desk
 pub record Sound (p : Port) (ss : List Slot) (js : List Stream) : Type 0 where
-  pub port_in_lem : in_range (port_ranges p) ≡ true
+  pub port_in : in_range (port_ranges p) ≡ true
   pub few_slots : length ss ≤ most_slots
   pub chain : Chain 0 ss p.cycle
   pub some_free : has_free (gate_of p js) ss ≡ true
   pub few_streams : length js ≤ most_streams
-  pub streams_in_lem : (j : Stream) → Mem j js → in_range (stream_ranges (octet_limit p) j) ≡ true
+  pub streams_in : (j : Stream) → Mem j js → in_range (stream_ranges (octet_limit p) j) ≡ true
   pub ids_rise : RisingBy (λ j. j.id) js
 
 abbrev pub SoundDesk : Desk → Type 0

@@ -111,7 +111,7 @@ module _ (d : Desk) (f : Fit d) (id : ℕ) where
 
     stream_fits : (j : Stream) → Mem j (streams_in d) → StreamFits j
     stream_fits j m =
-        let r = (stream_in (octet_limit (port_in d)) j).0 (h.sound.streams_in_lem j m) in
+        let r = (stream_in (octet_limit (port_in d)) j).0 (h.sound.streams_in j m) in
         record {
           octets_most = omega (arith, octet_limit_most (port_in d));
           period_least = omega arith;
@@ -148,7 +148,7 @@ module _ (d : Desk) (f : Fit d) (id : ℕ) where
       pub asks : Asks d.rate d.cycle d.far d.tot d.nstairs d.streams d.nstreams own
       asks =
           let v = interference (gate_in d) (slots_in d) in
-          let r = (port_in_lem (port_in d)).0 h.sound.port_in_lem in
+          let r = (port_in_lem (port_in d)).0 h.sound.port_in in
           let all = all_is (gate_in d) (slots_in d) d.far d.tot d.nstairs h.stored h.count in
           record {
             table = h.table_fits;

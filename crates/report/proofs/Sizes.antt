@@ -99,13 +99,13 @@ module _ (p : Port) (ss : List Slot) (js : List Stream) (s : Sound p ss js) wher
 
   all_small : all_len (runs (gate_of p js) ss) ≤ 100_000_000
   all_small =
-      let r = (port_in_lem p).0 s.port_in_lem in
+      let r = (port_in_lem p).0 s.port_in in
       omega (arith, gate_cycle p js, all_at_most_cycle (gate_of p js) ss s.some_free)
 
   pub first_short : 17 + length (decimal (all_len (runs (gate_of p js) ss))) + length (decimal p.cycle)
       + length (decimal (length (runs (gate_of p js) ss))) ≤ 37
   first_short =
-      let r = (port_in_lem p).0 s.port_in_lem in
+      let r = (port_in_lem p).0 s.port_in in
       omega (
         arith,
         digits_9 (all_len (runs (gate_of p js) ss)) all_small,
@@ -117,7 +117,7 @@ module _ (p : Port) (ss : List Slot) (js : List Stream) (s : Sound p ss js) wher
   unfolding stairs
   stair_small x m =
       let g = gate_of p js in
-      let range = (port_in_lem p).0 s.port_in_lem in
+      let range = (port_in_lem p).0 s.port_in in
       let among = (stairs_are (pairs g.cycle (runs g ss))).among x m in
       let (r, q, mr, mq, e) = (pairs_mem g.cycle (runs g ss) (slots_rise g ss) (slots_below g ss) x).0 among in
       let same = gate_cycle p js in
@@ -140,7 +140,7 @@ module _ (p : Port) (ss : List Slot) (js : List Stream) (s : Sound p ss js) wher
   unfolding bound_of others horizon
   bound_small j b m e =
       let pos : (i : Stream) → Mem i js → 0 < i.period =
-      λ i k. let r = (stream_in (octet_limit p) i).0 (s.streams_in_lem i k) in omega arith in
+      λ i k. let r = (stream_in (octet_limit p) i).0 (s.streams_in i k) in omega arith in
       let rest = others j.id js in
       let rest-pos : (i : Stream) → Mem i rest → 0 < i.period = λ i k. pos i ((keep_mem _ js i).0 k).0 in
       bound_at_most p.rate (interference (gate_of p js) ss) (lower_wire p.rate j rest) rest j rest-pos
@@ -153,7 +153,7 @@ module _ (p : Port) (ss : List Slot) (js : List Stream) (s : Sound p ss js) wher
   verdict_short j (some b) m e = go (ltb j.deadline b)
     where
       due : j.deadline ≤ 100_000_000
-      due = ((stream_in (octet_limit p) j).0 (s.streams_in_lem j m)).8
+      due = ((stream_in (octet_limit p) j).0 (s.streams_in j m)).8
 
       go : (late : Bool) → length (told (cond late " late " " bound ") b ++ told " of " j.deadline) ≤ 29
       go true = two_told " late " b j.deadline (omega arith) (bound_small j b m e) due
@@ -168,7 +168,7 @@ module _ (p : Port) (ss : List Slot) (js : List Stream) (s : Sound p ss js) wher
         length-append (told "stream " j.id ++ words) newline,
         length-append (told "stream " j.id) words,
         length-append (octets_in "stream ") (decimal j.id),
-        digits_5 j.id ((stream_in (octet_limit p) j).0 (s.streams_in_lem j m)).0,
+        digits_5 j.id ((stream_in (octet_limit p) j).0 (s.streams_in j m)).0,
         verdict_short j (bound_of p ss js j) m refl,
       )
 

@@ -56,11 +56,11 @@ module _ (d : Desk) (f : Fit d) (o : d.opened ≡ true) where
 
   -- each number fits the octets of its place in a field
   pub rate_fits : d.rate < 256
-  rate_fits = omega (arith, (port_in_lem (port_in d)).0 open_of.sound.port_in_lem)
+  rate_fits = omega (arith, (port_in_lem (port_in d)).0 open_of.sound.port_in)
 
   pub streams_fit : AllFit (streams_in d)
   streams_fit j m =
-      let h = (stream_in (octet_limit (port_in d)) j).0 (open_of.sound.streams_in_lem j m) in
+      let h = (stream_in (octet_limit (port_in d)) j).0 (open_of.sound.streams_in j m) in
       omega (arith, octet_limit_most (port_in d))
 
 -- ---- the room, field by field
