@@ -209,7 +209,8 @@ module _ (per jit cost : List ℕ) (n : ℕ) (fit : RowsFit per jit cost n) wher
           each : (k : ℕ) → k < n → (b : Bool) → leb (get_or next k 0) x ≡ b
               → CountedTo (stream_at per jit k) x (u.taken k + cond b 1 0)
               (cond b (get_or next k 0 + get_or per k 0) (get_or next k 0))
-          each k h true e = counted_more (stream_at per jit k) (row_pos k h) (leb-true (get_or next k 0) x e) (u.each k h)
+          each k h true e = counted_more (stream_at per jit k) (row_pos k h) (leb-true (get_or next k 0) x e)
+              (u.each k h)
           each k h false e = rw (add-zero (u.taken k)) (u.each k h)
 
           tally : (k : ℕ) (b : Bool)

@@ -10,7 +10,8 @@ use Rattle.meaning.specs.Interference.{by_stairs, stairs}
 use Rattle.meaning.specs.Refusals.{Answer, accepted}
 use Rattle.meaning.specs.Desks.{bare, edited}
 use Rattle.meaning.specs.Desks.{Desk as Plan}
-use Rattle.meaning.specs.Calls.{open_port, add_slot, remove_slot, add_stream, remove_stream, ask_stairs, ask_interference}
+use Rattle.meaning.specs.Calls.{open_port, add_slot, remove_slot, add_stream, remove_stream, ask_stairs}
+use Rattle.meaning.specs.Calls.{ask_interference}
 use Rattle.meaning.specs.Promises.{Stairway}
 use Rattle.table.specs.Lookup.{stairs_in, all_in, DemandThree}
 use Rattle.desk.specs.declared.Desk.{Desk}

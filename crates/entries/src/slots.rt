@@ -59,7 +59,8 @@ pub fn hold_slot(e: Entries, start: u64, end: u64) -> EntriesReply
 // The slot that has this start taken out.
 pub fn drop_slot(e: Entries, start: u64) -> EntriesReply
     requires { FitEntries e }
-    ensures { (result ≡ entries_reply (edited (held_in e) (remove_slot start (held_in e)))) × FitEntries result.entries }
+    ensures { (result ≡ entries_reply (edited (held_in e) (remove_slot start (held_in e))))
+        × FitEntries result.entries }
 {
     if !e.opened {
         return refuse(e, Refusal::OutOfTurn);

@@ -50,8 +50,10 @@ module _ (d : Desk) (f : Fit d) where
       → r ≡ numbered_stairs (record { verdict = q.verdict; stairs = q.stairs; desk = d })
       → (r ≡ numbered_stairs (stairs_reply (asked (held d) a))) × Fit r.desk
   unfolding asked
-  stairs_told a q r k t =
-      (t ∙ λ i. numbered_stairs (record { verdict = (k i).verdict; stairs = (k i).stairs; desk = f.canonical i }), rw t f)
+  stairs_told a q r k t = (
+    t ∙ λ i. numbered_stairs (record { verdict = (k i).verdict; stairs = (k i).stairs; desk = f.canonical i }),
+    rw t f,
+  )
 
   pub write_told : (a : Answer ℕ) (q : WriteReply) (r : PlanWritten) → q ≡ write_reply (asked (held d) a)
       → r ≡ numbered_write (record { answer = q.answer; desk = d })

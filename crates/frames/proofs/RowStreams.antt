@@ -23,7 +23,8 @@ use Rattle.frames.specs.Windows.{RowsOf, Beside}
 use Rattle.arrivals.proofs.Arriving.{arrivals_alike, later_computed}
 
 -- a total is the sum over the places
-pub total_places : {A : Type 0} (f : A → ℕ) (d : A) (xs : List A) → total f xs ≡ sum (length xs) (λ k. f (get_or xs k d))
+pub total_places : {A : Type 0} (f : A → ℕ) (d : A) (xs : List A) → total f xs
+    ≡ sum (length xs) (λ k. f (get_or xs k d))
 unfolding total sum
 total_places f d [] = refl
 total_places f d (x ∷ xs) = omega (arith, total_places f d xs, sum_front (length xs) (λ k. f (get_or (x ∷ xs) k d)))
@@ -75,7 +76,8 @@ module _ (rate : ℕ) (js : List Stream) (per jit cost : List ℕ) (n : ℕ) (of
   rows_later calm none x =
       rows_total (λ j. later_in j x) (λ k. most_in (stream_at per calm k) x)
       (λ k h. ap₂ (λ (a b : ℕ). a * b)
-      ((arrivals_alike (stream_at per calm k) (row_stream (at k).period 0) (period_at k h) (omega (arith, none k h))).0 x
+      ((arrivals_alike (stream_at per calm k) (row_stream (at k).period 0) (period_at k h)
+      (omega (arith, none k h))).0 x
       ∙ later_computed (at k) x) (cost_at k h))
 
 -- the stream asked about, beside those of the rows

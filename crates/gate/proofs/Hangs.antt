@@ -130,5 +130,6 @@ module _ {g : Gate} {l : List Slot} {n : ℕ} {a : List ℕ} (held : Held g l n)
       hangs_read held (reach_of g) a ends.fits i h
       (ap (drop i) ends.stops ∙ hangs_drop (reach_of g) i (take n l))
 
-  pub stop_in : ((slot_at l i).start < (slot_at l i).end) × ((slot_at l i).end ≤ get_or a i 0) × (get_or a i 0 ≤ g.cycle)
+  pub stop_in : ((slot_at l i).start < (slot_at l i).end) × ((slot_at l i).end ≤ get_or a i 0)
+      × (get_or a i 0 ≤ g.cycle)
   stop_in = rw stop_is (hung_in held i h (reach_of g))

@@ -24,4 +24,9 @@ pub rest_put : {A : Type 0} (l : List A) (n i : ℕ) (x : A) → i < n → n ≤
     → drop i (take n (set l i x)) ≡ x ∷ drop (i + 1) (take n l)
 rest_put l n i x h hn =
     rest_cons (set l i x) n i x h (rw length-set hn)
-    ∙ rw (get_or-set_same l i x x (omega arith), take-set-lt n l i x h, drop-set-lt (i + 1) (take n l) i x (omega arith))
+    ∙ rw (
+      get_or-set_same l i x x (omega arith),
+      take-set-lt n l i x h,
+      drop-set-lt (i + 1) (take n l) i x
+          (omega arith),
+    )

@@ -118,7 +118,8 @@ module _ {A : Type 0} where
       go false ih = (λ h. ih.0 (le_of_suc-le-suc h), λ e. let h = ih.1 e in omega arith)
 
   -- what stands there is what a search finds, so it passes
-  pub place_found : (p : A → Bool) (xs : List A) (d : A) → any p xs ≡ true → find p xs ≡ some (get_or xs (place_by p xs) d)
+  pub place_found : (p : A → Bool) (xs : List A) (d : A) → any p xs ≡ true → find p xs
+      ≡ some (get_or xs (place_by p xs) d)
   unfolding place_by any find
   place_found p [] d e = absurd (false≢true e)
   place_found p (x ∷ xs) d e = go (p x) (place_found p xs d) e

@@ -18,8 +18,6 @@ use Rattle.meaning.specs.Bytes.{Field, field_length, field_octets, front, edit, 
 use Rattle.meaning.specs.Bytes.{after_front, step, walk, Outcome, read, refused_at, ended, read_plan, desk_read}
 use Rattle.meaning.specs.Plans.{Begins, MadeOf, AcceptedPlan}
 -- for the order of the check alone: the instances come before every law, so that a wrong definition is refused there
-use Rattle.meaning.proofs.Instances.{small_gate}
-use Rattle.meaning.proofs.CallInstances.{first_decides}
 use Rattle.meaning.proofs.Sounds.{sound_bare}
 use Rattle.meaning.proofs.Plans.{plan_length_lem}
 use Rattle.meaning.proofs.Octets.{Octets}
@@ -116,7 +114,8 @@ one_more octets d c f e q p =
 
 -- the front is read, where there are octets, and its edit made
 one_turn : (octets : List ℕ) (d : Desk)
-    → ((f : Field) (c : Desk) → field_length f ≤ length octets → Parts (drop (field_length f) octets) c) → Parts octets d
+    → ((f : Field) (c : Desk) → field_length f ≤ length octets → Parts (drop (field_length f) octets) c)
+    → Parts octets d
 one_turn [] d later = none_yet [] d (inl refl)
 one_turn (x ∷ xs) d later = by_front (front (x ∷ xs)) refl
   where
@@ -208,7 +207,8 @@ pub refused_when : (octets : List ℕ) (r : Refusal) (place : ℕ)
 unfolding read_plan walk ended
 refused_when octets r place = (λ e. to e (answered octets), ⊎_elim empty at_field)
   where
-    to : read_plan octets ≡ refused_at r place → Answered octets → EmptyPlan octets r place ⊎ RefusedField octets r place
+    to : read_plan octets ≡ refused_at r place → Answered octets
+        → EmptyPlan octets r place ⊎ RefusedField octets r place
     to e (reads c a _) = absurd (read≢refused_at (sym a ∙ e))
     to e (refuses s at a w) = subst₂ (λ x k. EmptyPlan octets x k ⊎ RefusedField octets x k) (cc) (cc) w
 

@@ -85,7 +85,8 @@ pub slot_in_order : with_slot (slot 250 400) (slot 0 100 ∷ slot 500 600 ∷ []
 unfolding insert_by
 slot_in_order = refl
 
-pub stream_in_order : with_stream stream_f₂ (stream_f₁ ∷ stream₈ 7 5 1 ∷ []) ≡ stream_f₁ ∷ stream_f₂ ∷ stream₈ 7 5 1 ∷ []
+pub stream_in_order : with_stream stream_f₂ (stream_f₁ ∷ stream₈ 7 5 1 ∷ [])
+    ≡ stream_f₁ ∷ stream_f₂ ∷ stream₈ 7 5 1 ∷ []
 unfolding insert_by
 stream_in_order = refl
 
@@ -141,7 +142,8 @@ port₄ = 1 ∷ 0 ∷ 13 ∷ 2 ∷ 0 ∷ 0 ∷ 3 ∷ 0xE8 ∷ 0 ∷ 0 ∷ 0 ∷ 
 
 pub place_of_second : read_plan (port₄ ++ 2 ∷ 0 ∷ 9 ∷ []) ≡ refused_at WrongLength 16
 unfolding
-    read_plan walk step front unless value_length number_at number_after field_of after_front edit open_port port_ranges every
+    read_plan walk step front unless value_length number_at number_after field_of after_front edit open_port
+    port_ranges every
     after_edit field_length tag_of ended
 place_of_second = refl
 
@@ -149,8 +151,10 @@ place_of_second = refl
 pub port_and_slot : read_plan (port₄ ++ 2 ∷ 0 ∷ 8 ∷ 0 ∷ 0 ∷ 0 ∷ 0 ∷ 0 ∷ 0 ∷ 0 ∷ 100 ∷ [])
     ≡ read (desk₄ 2 (slot 0 100 ∷ []))
 unfolding
-    read_plan walk step front unless value_length number_at number_after field_of after_front edit open_port port_ranges every
-    add_slot slot_ranges any insert_by most_slots has_free any_below gate_of blocked blocks after_edit field_length tag_of ended
+    read_plan walk step front unless value_length number_at number_after field_of after_front edit open_port
+    port_ranges every
+    add_slot slot_ranges any insert_by most_slots has_free any_below gate_of blocked blocks after_edit field_length
+    tag_of ended
 port_and_slot = refl
 
 -- "4: a plan [..] that is empty": no desk is its
@@ -200,7 +204,8 @@ pub place_of_last : findings
     ≡ octets_in "refused 1 at 76\n"
 unfolding
     findings read_plan walk step front unless value_length number_at number_after field_of after_front edit open_port
-    port_ranges every add_stream stream_ranges octet_limit most_streams any insert_by after_edit field_length tag_of ended
+    port_ranges every add_stream stream_ranges octet_limit most_streams any insert_by after_edit field_length tag_of
+    ended
     joined field_octets octets_of value_of printed number_of refused_line told newline octets_in decimal digits_within
 place_of_last = refl
 
@@ -209,7 +214,8 @@ pub one_run_of_two_slots : desk_lines (record { rate = 2; cycle = 1_000; guard =
     (slot 0 100 ∷ slot 250 400 ∷ []) []
     ≡ octets_in "blocked 550 of 1000 in 1\nstair 0 550\n"
 unfolding
-    desk_lines blocked_line stair_line gate_of runs runs_of runs_below starts row blocked blocks any all_len total stairs
+    desk_lines blocked_line stair_line gate_of runs runs_of runs_below starts row blocked blocks any all_len total
+    stairs
     stairs_of pairs pairs_from pairs_meeting covers same uncovered put keep every joined told newline octets_in decimal
     digits_within
 one_run_of_two_slots = refl

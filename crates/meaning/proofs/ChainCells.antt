@@ -187,8 +187,12 @@ module _ (g : Gate) (pre : List Slot) (s : Slot) (post : List Slot) (ok : Chain 
             → Reached g (pre ++ s ∷ post) x
         from y h (inl m) = (y, Memᴰ.append_right pre m, (here y m).1 h)
         from y h (inr m) =
-            let (z, mz, e) = Memᴰ.of_map (later g.cycle) pre m in
-            (z, Memᴰ.append_left (s ∷ post) mz, (round z mz).1 (subst (λ (w : Slot). InReach (reach_of g) w x) (sym e) h))
+            let (z, mz, e) = Memᴰ.of_map (later g.cycle) pre m in (
+              z,
+              Memᴰ.append_left (s ∷ post) mz,
+              (round z mz).1
+                  (subst (λ (w : Slot). InReach (reach_of g) w x) (sym e) h),
+            )
 
     stop_bounds : (s.start < stop_of g pre s post) × (stop_of g pre s post < s.start + g.cycle)
     stop_bounds =

@@ -195,7 +195,8 @@ found_iff g ss ok r = (λ m. (found_is g [] ss ok r m).0, has)
 
 -- ---- by rising start
 
-run_at_rises : (g : Gate) (pre : List Slot) (s : Slot) (post : List Slot) → RisingBy (λ r. r.start) (run_at g pre s post)
+run_at_rises : (g : Gate) (pre : List Slot) (s : Slot) (post : List Slot)
+    → RisingBy (λ r. r.start) (run_at g pre s post)
 unfolding run_at
 run_at_rises g pre s post = go (broken g pre s post)
   where

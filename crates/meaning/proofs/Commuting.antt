@@ -213,7 +213,8 @@ module _ (p : Port) (ss : List Slot) (js : List Stream) (h : Sound p ss js) wher
   either_edit (of_streams a) (of_streams b) m n o =
       let (x, e) = either_order id_of (stream_rules p) a b js h.ids_rise m n o in (x, refl, e)
 
-  second_edit : (a b : Edit) → May a p ss js → May b p (slots_by a ss) (streams_by a js) → EditsApart a b → May b p ss js
+  second_edit : (a b : Edit) → May a p ss js → May b p (slots_by a ss) (streams_by a js) → EditsApart a b
+      → May b p ss js
   second_edit (of_slots a) (of_slots b) m n s = second_first start_of (slot_rules p js) a b ss h.chain m n s
   second_edit (of_slots a) (of_streams b) m n s = n
   second_edit (of_streams a) (of_slots b) m n s = beside_streams b p ss (edit id_of a js) js n

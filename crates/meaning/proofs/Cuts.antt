@@ -126,7 +126,8 @@ module _ (octets : List ℕ) (r : Refusal) (place : ℕ) (h : 1_668 ≤ length o
 pub rest_unread : (xs ys : List ℕ) → 1_668 ≤ length xs → read_plan (xs ++ ys) ≡ read_plan xs
 rest_unread xs ys h =
     let (r, place, f) = long_refused xs h in
-    (refused_when (xs ++ ys) r place).1 (inr (same_behind xs r place h f ys)) ∙ sym ((refused_when xs r place).1 (inr f))
+    (refused_when (xs ++ ys) r place).1 (inr (same_behind xs r place h f ys))
+    ∙ sym ((refused_when xs r place).1 (inr f))
 
 pub cut_anywhere : (n : ℕ) (octets : List ℕ) → 1_668 ≤ n → read_plan (take n octets) ≡ read_plan octets
 cut_anywhere n octets h =

@@ -137,7 +137,8 @@ pub edit_numbers : (f : Field) (d : Desk) (r : Refusal) → edit f d ≡ refused
     → Mem (number_of r) (4 ∷ 5 ∷ 6 ∷ 7 ∷ 8 ∷ 10 ∷ [])
 unfolding edit open_port add_slot add_stream number_of any every
 edit_numbers (port_field p) bare r e = among_these _ _ refl (number_of r) ((open_says p).only r e)
-edit_numbers (slot_field s) (opened p ss js) r e = among_these _ _ refl (number_of r) ((add_slot_says s p ss js).only r e)
+edit_numbers (slot_field s) (opened p ss js) r e = among_these _ _ refl (number_of r)
+    ((add_slot_says s p ss js).only r e)
 edit_numbers (stream_field j) (opened p ss js) r e =
     among_these _ _ refl (number_of r) ((add_stream_says j p ss js).only r e)
 edit_numbers (port_field p) (opened q ss js) r e = Memᴰ.head (sym (ap number_in e))

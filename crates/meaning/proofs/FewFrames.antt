@@ -106,7 +106,8 @@ module _ (rate : ℕ) (v : ℕ → ℕ) (L : ℕ) (rest : List Stream) (i : Stre
         (w, lw, answer_is b q w lb lo hi lw)
 
     -- one frame more, which waits w
-    pub worst_more : (b first n w : ℕ) → Least busy b → 1 ≤ first → first + n ≤ most_in i b → Least (waits (first + n)) w
+    pub worst_more : (b first n w : ℕ) → Least busy b → 1 ≤ first → first + n ≤ most_in i b
+        → Least (waits (first + n)) w
         → worst_of b first (n + 1) ≡ max (worst_of b first n) (w + C - earliest i (first + n))
     unfolding worst_of
     worst_more b first n w lb lo hi lw =

@@ -257,7 +257,8 @@ unfolding
     ten_octets iter quick met all_len horizon
 bound_f₁ =
     rw (gate_f_lem (stream_f₁ ∷ stream_f₂ ∷ []), VF)
-    (bound_single 2 quick_f 20_000 (stream_f₂ ∷ []) stream_f₁ (long stream_f₂ (lit< tt)) quick_f_grows (lit< tt) 8 44_000
+    (bound_single 2 quick_f 20_000 (stream_f₂ ∷ []) stream_f₁ (long stream_f₂ (lit< tt)) quick_f_grows (lit< tt) 8
+    44_000
     refl (lit≤ tt) (lit≤ tt) refl 8 34_000 refl (lit≤ tt))
 
 pub bound_f₂ : bound_of port_f slots_f (stream_f₁ ∷ stream_f₂ ∷ []) stream_f₂ ≡ some 44_000
@@ -294,7 +295,8 @@ sound_f =
     rises : (j : Stream) → j ≡ stream_f₂ → 1 < j.id
     rises j e = omega (arith, ap (λ (k : Stream). k.id) e)
 
-    each : (j : Stream) → Mem j (stream_f₁ ∷ stream_f₂ ∷ []) → every (λ b. b) (stream_ranges (octet_limit port_f) j) ≡ true
+    each : (j : Stream) → Mem j (stream_f₁ ∷ stream_f₂ ∷ []) → every (λ b. b) (stream_ranges (octet_limit port_f) j)
+        ≡ true
     each j m = in_cons m (λ e. rw e) (λ k. in_cons k (λ e. rw e) (λ n. mem_none n))
 
 empty_refused : read_plan [] ≡ refused_at OutOfTurn 0
@@ -309,13 +311,15 @@ lone_refused = refl
 
 pub figures : Figures
 unfolding
-    wire_time extra_octets ten_octets octets_f gate_of horizon most_slots unless every any insert_by slot_ranges ask_runs
+    wire_time extra_octets ten_octets octets_f gate_of horizon most_slots unless every any insert_by slot_ranges
+    ask_runs
     ask_stairs ask_interference add_slot find respond verdict ask_response plan_length
 figures =
     record {
       p1 = (refl, refl, refl);
       f_octets = refl;
-      f_reads = ap read_plan (sym octets_are_f) ∙ written_reads_back port_f slots_f (stream_f₁ ∷ stream_f₂ ∷ []) sound_f;
+      f_reads = ap read_plan (sym octets_are_f) ∙ written_reads_back port_f slots_f (stream_f₁ ∷ stream_f₂ ∷ [])
+          sound_f;
       f_writes =
           λ room h.
           ((write_says room port_f slots_f (stream_f₁ ∷ stream_f₂ ∷ [])).accepts octets_f).1

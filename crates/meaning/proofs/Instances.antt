@@ -135,7 +135,8 @@ small_stairs = stair 0 8 ∷ stair 8 9 ∷ stair 11 12 ∷ stair 13 13 ∷ stair
 
 pub small_stairs_lem : stairs small small_slots ≡ small_stairs
 unfolding
-    stairs stairs_of put keep uncovered every same covers pairs pairs_from pairs_meeting runs runs_of runs_below starts row
+    stairs stairs_of put keep uncovered every same covers pairs pairs_from pairs_meeting runs runs_of runs_below
+    starts row
     blocked blocks any
 small_stairs_lem = refl
 

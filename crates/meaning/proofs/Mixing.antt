@@ -96,7 +96,8 @@ swapped : (f g : Field) (hs : List Field) → tag_of f ≢ tag_of g → Follows 
 unfolding edit tag_of
 swapped (port_field q) g hs ne p ss js e h = absurd (second_port q p ss js (g ∷ hs) e h)
 swapped (slot_field s) (port_field q) hs ne p ss js e h = absurd (port_behind (slot_field s) q hs (opened p ss js) e h)
-swapped (stream_field j) (port_field q) hs ne p ss js e h = absurd (port_behind (stream_field j) q hs (opened p ss js) e h)
+swapped (stream_field j) (port_field q) hs ne p ss js e h = absurd
+    (port_behind (stream_field j) q hs (opened p ss js) e h)
 swapped (slot_field s) (slot_field t) hs ne p ss js e h = absurd (ne refl)
 swapped (stream_field j) (stream_field k) hs ne p ss js e h = absurd (ne refl)
 swapped (slot_field s) (stream_field j) hs ne p ss js e h =
@@ -143,7 +144,8 @@ one_more (slot_field s) fs =
     past (slot_field s) (of_tag 1 fs) (of_tag 2 fs ++ of_tag 3 fs) (λ g m e. omega (arith, tag_of_lem 1 fs g m))
 one_more (stream_field j) fs =
     let other : (g : Field) → Mem g (of_tag 1 fs ++ of_tag 2 fs) → 3 ≢ tag_of g =
-    λ g m e. in_append (of_tag 1 fs) m (λ k. omega (arith, tag_of_lem 1 fs g k)) (λ k. omega (arith, tag_of_lem 2 fs g k)) in
+    λ g m e. in_append (of_tag 1 fs) m (λ k. omega (arith, tag_of_lem 1 fs g k))
+    (λ k. omega (arith, tag_of_lem 2 fs g k)) in
     rw (
       append_assoc (of_tag 1 fs) (of_tag 2 fs) (of_tag 3 fs),
       append_assoc (of_tag 1 fs) (of_tag 2 fs) (stream_field j ∷ of_tag 3 fs),
@@ -183,12 +185,14 @@ mixed_plans p fs gs same xs ys a b d =
 same_members : (fs gs : List Field) → SameByTag fs gs → (g : Field) → Mem g gs → Mem g fs
 same_members fs gs same g m =
     let tagged : Field → _ = λ x. eqb (tag_of x) (tag_of g) in
-    ((keep_mem tagged fs g).0 (rw (same (tag_of g)) ((keep_mem tagged gs g).1 (m, eq-eqb (tag_of g) (tag_of g) refl)))).0
+    ((keep_mem tagged fs g).0 (rw (same (tag_of g)) ((keep_mem tagged gs g).1
+    (m, eq-eqb (tag_of g) (tag_of g) refl)))).0
 
 -- where each number fits into its octets, of the fields' own octets
 pub mixed_octets : (p : Port) (fs gs : List Field) → SameByTag fs gs
     → ((f : Field) → Mem f (port_field p ∷ fs) → FieldFits f) → (d : Desk)
-    → AcceptedPlan (joined field_octets (port_field p ∷ fs)) d ↔ AcceptedPlan (joined field_octets (port_field p ∷ gs)) d
+    → AcceptedPlan (joined field_octets (port_field p ∷ fs)) d ↔ AcceptedPlan
+    (joined field_octets (port_field p ∷ gs)) d
 mixed_octets p fs gs same fit d =
     mixed_plans p fs gs same _ _ (joined_made (port_field p ∷ fs) fit)
     (joined_made (port_field p ∷ gs)

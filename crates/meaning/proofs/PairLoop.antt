@@ -9,7 +9,8 @@ use native.Mathlib.Nat.{add_assoc, zero-add, mod-eq_of_lt}
 use native.Mathlib.Decide.{dec_lt, ℕ_discrete}
 use native.Mathlib.Omega.{arith}
 use lib.ListN.{length, get_or, take, drop, length-append, length-take, length-drop, take-append-drop, get_or-append}
-use lib.Seq.{take-suc, append_snoc, take-append_seam, drop-append_seam, get_or-append_seam, get_or-append-add, get_or-drop}
+use lib.Seq.{take-suc, append_snoc, take-append_seam, drop-append_seam, get_or-append_seam, get_or-append-add}
+use lib.Seq.{get_or-drop}
 use lib.Seq.{get_or-take}
 use Rattle.laws.specs.Lists.{total, Mem, RisingBy}
 use Rattle.laws.proofs.Circle.{mod_once, dist_up, dist_down}

@@ -102,7 +102,11 @@ one_if_le false = zero-le
 
 blocked_in_le : (b : ℕ → Bool) (a t : ℕ) → blocked_in b a t ≤ t
 unfolding blocked_in
-blocked_in_le b a t = omega (arith, sum_le t (λ k. one_if (b (a + k))) (λ k. 1) (λ k l. one_if_le (b (a + k))), sum_ones t)
+blocked_in_le b a t = omega (
+  arith,
+  sum_le t (λ k. one_if (b (a + k))) (λ k. 1) (λ k l. one_if_le (b (a + k))),
+  sum_ones t,
+)
 
 blocked_in_none : (b : ℕ → Bool) (a t : ℕ) → ((j : ℕ) → j < t → b (a + j) ≡ false) → blocked_in b a t ≡ 0
 unfolding blocked_in

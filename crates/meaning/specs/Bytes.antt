@@ -1,5 +1,6 @@
 -- Document 01, "The plan's bytes": fields, the reader and the writer.
-use Rattle.std.specs.Prelude.{not, cond, List, [], ◌∷◌, ◌++◌, map, ℕ, zero, suc, ◌+◌, ◌*◌, ◌/◌, ◌%◌, length, take, drop, ltb, eqb}
+use Rattle.std.specs.Prelude.{not, cond, List, [], ◌∷◌, ◌++◌, map, ℕ, zero, suc, ◌+◌, ◌*◌, ◌/◌, ◌%◌, length, take}
+use Rattle.std.specs.Prelude.{drop, ltb, eqb}
 use Rattle.laws.specs.Lists.{total, joined}
 use Rattle.meaning.specs.declared.Port.{Port}
 use Rattle.meaning.specs.declared.Slot.{Slot}

@@ -267,7 +267,8 @@ module _ (d : Desk) (f : Fit d) (room : List ℕ) where
       let front : take n (left_in d room) ≡ plan_octets (held d) = rw e (room_front room (held d) _ q) in
       (read_as _ d).1 (f, ap read_plan front ∙ back (held d) f.sound q)
     where
-      back : (e : Plan) → SoundDesk e → write_plan room e ≡ accepted (plan_octets e) → read_plan (plan_octets e) ≡ read e
+      back : (e : Plan) → SoundDesk e → write_plan room e ≡ accepted (plan_octets e) → read_plan (plan_octets e)
+          ≡ read e
       back bare s q = absurd (accepted≢refused (sym q))
       back (opened p ss js) s q = written_reads_back p ss js s
 

@@ -105,4 +105,5 @@ module _ (d : Desk) (f : Fit d) (t : ℕ) where
 
   pub figure_open : d.opened ≡ true → t ≤ horizon → (v : ℕ) → v ≡ figure_in d t
       → record { figure = Figures.Is v; desk = d } ≡ figure_reply (asked (held d) (ask_interference t (held d)))
-  figure_open o h v e = figure_reply_lem (accepted v) ((fit_demand_three d f o).figure_answered t h ∙ ap accepted (sym e))
+  figure_open o h v e = figure_reply_lem (accepted v) ((fit_demand_three d f o).figure_answered t h
+      ∙ ap accepted (sym e))

@@ -77,7 +77,8 @@ module _ (d : Desk) (f : Fit d) (id : ℕ) where
   figure_of_lem a q x e = rw (q, e) (λ i. record { figure = figure_of a; desk = f.canonical i })
 
   pub response_closed : d.opened ≡ false
-      → record { figure = Figures.Refused OutOfTurn; desk = d } ≡ figure_reply (asked (held d) (ask_response id (held d)))
+      → record { figure = Figures.Refused OutOfTurn; desk = d }
+      ≡ figure_reply (asked (held d) (ask_response id (held d)))
   unfolding ask_response held
   response_closed o = figure_of_lem (refused OutOfTurn) (rw o) _ refl
 
@@ -85,15 +86,18 @@ module _ (d : Desk) (f : Fit d) (id : ℕ) where
     h : OpenFits d
     h = open_fits d f o
 
-    asked_open : ask_response id (held d) ≡ respond (port_in d) (slots_in d) (streams_in d) (find (has_id id) (streams_in d))
+    asked_open : ask_response id (held d) ≡ respond (port_in d) (slots_in d) (streams_in d)
+        (find (has_id id) (streams_in d))
     unfolding ask_response
     asked_open = ap (ask_response id) h.holds
 
     pub response_not_held : length (streams_in d) ≤ place_by (has_id id) (streams_in d)
-        → record { figure = Figures.Refused NotHeld; desk = d } ≡ figure_reply (asked (held d) (ask_response id (held d)))
+        → record { figure = Figures.Refused NotHeld; desk = d }
+        ≡ figure_reply (asked (held d) (ask_response id (held d)))
     unfolding respond
     response_not_held l =
-        figure_of_lem (refused NotHeld) (asked_open ∙ ap (respond (port_in d) (slots_in d) (streams_in d)) none_found) _ refl
+        figure_of_lem (refused NotHeld) (asked_open ∙ ap (respond (port_in d) (slots_in d) (streams_in d))
+        none_found) _ refl
       where
         none_found : find (has_id id) (streams_in d) ≡ none
         none_found =

@@ -10,7 +10,8 @@ use Rattle.meaning.specs.declared.Refusal.{Refusal}
 use Rattle.meaning.specs.Refusals.{Answer, accepted, refused}
 use Rattle.meaning.specs.Desks.{bare, edited}
 use Rattle.meaning.specs.Desks.{Desk as Plan}
-use Rattle.meaning.specs.Bytes.{Field, port_field, slot_field, stream_field, tag_of, value_length, field_length, front, edit}
+use Rattle.meaning.specs.Bytes.{Field, port_field, slot_field, stream_field, tag_of, value_length, field_length}
+use Rattle.meaning.specs.Bytes.{front, edit}
 use Rattle.meaning.specs.Bytes.{Reading, going, stopped, after_edit, after_front, step, walk}
 use Rattle.meaning.specs.Bytes.{ended, read_plan, refused_at}
 use Rattle.meaning.proofs.Fields.{front_takes}
@@ -69,12 +70,15 @@ module _ (plan : List ℕ) (at : ℕ) (f : FieldAt) (e : f ≡ field_at (front (
         ap octets_at (e ∙ ap field_at (field_told f (front (drop at plan)) e ∙ q)) ∙ octets_of_lem g
 
     pub walked_accepted : m.verdict ≡ Accepted
-        → walked_by Accepted (at + octets_at f) m.entries ≡ walked_to (held_in es) (step (going at (drop at plan) (held_in es)))
+        → walked_by Accepted (at + octets_at f) m.entries ≡ walked_to (held_in es)
+        (step (going at (drop at plan) (held_in es)))
     unfolding walked_to after_front after_edit edited
     walked_accepted v = by_told (told f) refl k ∙ sym (ap (walked_to (held_in es)) stepped)
       where
-        by_edit : (g : Field) → octets_at f ≡ field_length g → (a : Answer Plan) → m ≡ entries_reply (edited (held_in es) a)
-            → walked_by Accepted (at + octets_at f) m.entries ≡ walked_to (held_in es) (after_edit at (drop at plan) g a)
+        by_edit : (g : Field) → octets_at f ≡ field_length g → (a : Answer Plan) → m
+            ≡ entries_reply (edited (held_in es) a)
+            → walked_by Accepted (at + octets_at f) m.entries
+            ≡ walked_to (held_in es) (after_edit at (drop at plan) g a)
         by_edit g l (accepted x) q = λ i. walked_by Accepted (at + l i) (q i).entries
         by_edit g l (refused r) q = let z = ap (λ (x : EntriesReply). x.verdict) q in cc
 
@@ -95,7 +99,8 @@ module _ (plan : List ℕ) (at : ℕ) (f : FieldAt) (e : f ≡ field_at (front (
         by_edit g (refused r) q = λ i. walked_by ((sym v ∙ ap (λ (x : EntriesReply). x.verdict) q) i) at (q i).entries
 
         by_told : (a : Answer Field) → m ≡ entries_reply (edited (held_in es) (edit_told a (held_in es)))
-            → walked_by (Refused why) at m.entries ≡ walked_to (held_in es) (after_front at (drop at plan) (held_in es) a)
+            → walked_by (Refused why) at m.entries ≡ walked_to (held_in es)
+            (after_front at (drop at plan) (held_in es) a)
         by_told (accepted g) q = by_edit g (edit g (held_in es)) q
         by_told (refused r) q = λ i. walked_by ((sym v ∙ ap (λ (x : EntriesReply). x.verdict) q) i) at (q i).entries
 

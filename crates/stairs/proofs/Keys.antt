@@ -99,7 +99,8 @@ module _ {cycle n : ℕ} {start len : List ℕ} (f : RowsFit cycle start len n) 
   pub run_count : length (runs_in start len n) ≡ n
   run_count = runs_in_length start len n (omega (arith, f.starts, f.within)) (omega (arith, f.lens, f.within))
 
-  run_is : (k : ℕ) → k < n → get_or (runs_in start len n) k no_run ≡ record { start = get_or start k 0; len = get_or len k 0 }
+  run_is : (k : ℕ) → k < n → get_or (runs_in start len n) k no_run
+      ≡ record { start = get_or start k 0; len = get_or len k 0 }
   run_is = runs_in_at start len n (omega (arith, f.starts, f.within)) (omega (arith, f.lens, f.within))
 
   pub start_below : (k : ℕ) → k < n → get_or start k 0 < cycle

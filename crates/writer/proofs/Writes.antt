@@ -95,7 +95,12 @@ module _ (d : Desk) (f : Fit d) (o : d.opened ≡ true) (room : List ℕ) where
       let one : length first ≡ 16 = field_length_lem (port_field (port_in d)) in
       let second = octets_of_row slot_field (slots_in d) in
       let two : length (first ++ second) ≡ streams_at d =
-      omega (arith, length-append first second, row_octets slot_field 11 (λ s. refl) (slots_in d), (open_of d f o).slots_count) in
+      omega (
+        arith,
+        length-append first second,
+        row_octets slot_field 11 (λ s. refl) (slots_in d),
+        (open_of d f o).slots_count,
+      ) in
       let third = octets_of_row stream_field (streams_in d) in
       fill_next (streams_at d) (20 * d.nstreams) (filled_from 16 a b) c (first ++ second) third room two
       (fill_next 16 (11 * d.nslots) a b first second room one port slots) streams

@@ -84,12 +84,9 @@ enough-few-requires c =
       p.own_fits,
     )
 
-all_is : (f : After-frames_in)
-    → let w = f.before.before.before in
-    let o = w.args.own in
-    f.frames_in.result + 1 - f.frames_in-first.result
-    ≡ most_in (own_stream o) w.window-b.result + 1 - most_in (own_stream o) 0
-all_is f = ap₂ (λ (x y : ℕ). x + 1 - y) f.frames_in.ensures.0 f.frames_in-first.ensures.0
+-- the difference of two counts, from the counts
+counts_apart : (x y u v : ℕ) → x ≡ u → y ≡ v → x + 1 - y ≡ u + 1 - v
+counts_apart x y u v p q = ap₂ (λ (x y : ℕ). x + 1 - y) p q
 
 pub worst-requires : goal.worst-requires
 worst-requires c =
@@ -106,7 +103,8 @@ worst-requires c =
       beside_in (table_of a.far.now a.tot.now a.g) a.own a.per.now a.jit.now a.cost.now
           a.g.n
           w.window-b.result w.window-b.ensures.0 f.if-b-gt-HORIZON.false p.own_fits
-          (f.frames_in.result + 1 - f.frames_in-first.result) e.enough-few.result (all_is f)
+          (f.frames_in.result + 1 - f.frames_in-first.result) e.enough-few.result
+          (counts_apart _ _ _ _ f.frames_in.ensures.0 f.frames_in-first.ensures.0)
           e.enough-few.ensures.1 p.beside,
     )
 
@@ -121,6 +119,7 @@ returns c =
     bound_within (table_of a.far.now a.tot.now a.g) a.own a.per.now a.jit.now a.cost.now
     a.g.n
     w.window-b.result w.window-b.ensures.0 f.if-b-gt-HORIZON.false p.own_fits
-    (f.frames_in.result + 1 - f.frames_in-first.result) e.enough-few.result (all_is f) e.enough-few.ensures.1
+    (f.frames_in.result + 1 - f.frames_in-first.result) e.enough-few.result
+    (counts_apart _ _ _ _ f.frames_in.ensures.0 f.frames_in-first.ensures.0) e.enough-few.ensures.1
     p.v_spreads (replicate 64 0) (zeros_in a.g.n p.rows_fit.few) e.enough-few.ensures.0 c.worst.result
     c.worst.ensures

@@ -26,7 +26,8 @@ use Rattle.gate.proofs.Walks.{runs_none}
 use Rattle.gate.proofs.Hangs.{slot_at, Held, hold, slot_in, Stopping, stop_all, stop_in}
 use Rattle.gate.proofs.Turns.{others_place, row_plain, row_hung, row_across}
 use borrow.Author.Rules.{rules}
-use Rattle.gate.proofs.find_runs.Goals.{After-hang_ends-ends, After-runs_from-found, After-struct_known-5-1, After-struct_known-8-1, Else-first-g, Else-n-eq0, Then-first-g}
+use Rattle.gate.proofs.find_runs.Goals.{After-hang_ends-ends, After-runs_from-found, After-struct_known-5-1}
+use Rattle.gate.proofs.find_runs.Goals.{After-struct_known-8-1, Else-first-g, Else-n-eq0, Then-first-g}
 use Rattle.gate.proofs.find_runs.Goals as goal
 
 held : (c : Else-n-eq0) → Held c.args.g c.args.slots c.args.n

@@ -25,31 +25,21 @@ edit_is es f g a r e q h =
 pub returns-in-Port : goal.returns-in-Port
 unfolding edit
 returns-in-Port c =
-    let n = c.before in
-    let g = n.before.before in
-    let b = g.before.before in
-    edit_is b.args.e _ _ _ _ g.in-Port.is
-    (ap (λ (p : Port). open_port p (held_in b.args.e)) n.port_numbers.ensures) c.hold_port.ensures
+    edit_is c.args.e _ _ _ _ c.in-Port.is
+    (ap (λ (p : Port). open_port p (held_in c.args.e)) c.port_numbers.ensures) c.hold_port.ensures
 
 pub returns-in-Slot : goal.returns-in-Slot
 unfolding edit
 returns-in-Slot c =
-    let g = c.before.before.before.before in
-    let b = g.before.before in
-    edit_is b.args.e _ _ _ _ g.in-Slot.is refl c.hold_slot.ensures
+    edit_is c.args.e _ _ _ _ c.in-Slot.is refl c.hold_slot.ensures
 
 pub returns-in-Stream : goal.returns-in-Stream
 unfolding edit
 returns-in-Stream c =
-    let n = c.before in
-    let g = n.before.before in
-    let b = g.before.before in
-    edit_is b.args.e _ _ _ _ g.in-Stream.is
-    (ap (λ (j : Stream). add_stream j (held_in b.args.e)) n.stream_numbers.ensures) c.hold_stream.ensures
+    edit_is c.args.e _ _ _ _ c.in-Stream.is
+    (ap (λ (j : Stream). add_stream j (held_in c.args.e)) c.stream_numbers.ensures) c.hold_stream.ensures
 
 pub returns-in-Refused : goal.returns-in-Refused
 returns-in-Refused c =
-    let g = c.before in
-    let b = g.before.before in
-    refusal_edits b.args.e _ _ _ b.requires refl
-    (ap (λ (f : FieldAt). edit_told (told f) (held_in b.args.e)) g.in-Refused.is)
+    refusal_edits c.args.e _ _ _ c.requires refl
+    (ap (λ (f : FieldAt). edit_told (told f) (held_in c.args.e)) c.in-Refused.is)

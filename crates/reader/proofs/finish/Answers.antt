@@ -27,10 +27,9 @@ with_stairs-requires c = (c.requires, not-false _ c.if-not-e.false)
 pub returns : goal.returns
 unfolding ended desk_read
 returns c =
-    let b = c.before.before.before in
-    let a = b.args in
+    let a = c.args in
     let (same, fit) = c.with_stairs.ensures in
-    let h = (open_entries a.e b.requires (not-false _ c.if-not-e.false)).holds in
+    let h = (open_entries a.e c.requires (not-false _ c.if-not-e.false)).holds in
     let with_it : Desk → ReadReply = λ x. record { answer = Read; desk = x } in (
       ap with_it (same ∙ ap desk_of h) ∙ sym (ap (λ (x : Plan). read_reply (ended (going a.at [] x))) h),
       fit,

@@ -38,8 +38,14 @@ pub attempt-t-requires : goal.attempt-t-requires
 attempt-t-requires c =
     let b = c.before in
     let h = b.before.before.before.before in
-    let p = h.requires in
-    (p.0, p.1, h.loop-tries.invariant.0, h.loop-tries.invariant.1, le_trans b.frames_wire-base.ensures.1 (lit≤ tt), zero-le)
+    let p = h.requires in (
+      p.0,
+      p.1,
+      h.loop-tries.invariant.0,
+      h.loop-tries.invariant.1,
+      le_trans b.frames_wire-base.ensures.1 (lit≤ tt),
+      zero-le,
+    )
 
 pub returns-then-t-w : goal.returns-then-t-w
 returns-then-t-w c =

@@ -27,7 +27,8 @@ began c = c.before.before.before.before
 open_at : (c : Else-not-e) → Open (entries_at c.before.before)
 open_at c = open_entries _ c.requires (not-false _ c.if-not-e.false)
 
-in_range_lem : (c : Else-not-slot_in_range) → in_range (slot_ranges (entries_at (began c)).cycle (slot_at (began c))) ≡ true
+in_range_lem : (c : Else-not-slot_in_range) → in_range (slot_ranges (entries_at (began c)).cycle
+    (slot_at (began c))) ≡ true
 in_range_lem c = sym c.slot_in_range.ensures ∙ c.if-not-slot_in_range.false
 
 pub returns-then-not-e : goal.returns-then-not-e

@@ -15,7 +15,8 @@ use Rattle.entries.proofs.Opened.{Open, open_entries}
 use Rattle.entries.proofs.Answers.{refusal_edits, acceptance_edits}
 use Rattle.entries.proofs.SlotLaws.{add_slot_full, add_slot_overlap, add_slot_no_free_cell, add_slot_accepts}
 use Rattle.entries.proofs.SlotLaws.{add_slot_row, may_test_free, free_tested}
-use Rattle.entries.proofs.slots.place_slot.Goals.{After-gate_of, After-overlaps_any, After-some_free, Else-overlaps_any, Start}
+use Rattle.entries.proofs.slots.place_slot.Goals.{After-gate_of, After-overlaps_any, After-some_free}
+use Rattle.entries.proofs.slots.place_slot.Goals.{Else-overlaps_any, Start}
 use Rattle.entries.proofs.slots.place_slot.Goals as goal
 
 abbrev entries_at : Start → Entries
@@ -29,7 +30,6 @@ open_at c = open_entries _ c.requires.0 c.requires.1
 
 -- ---- 7: there is room
 
-
 pub returns-then-n-ge32 : goal.returns-then-n-ge32
 returns-then-n-ge32 c =
     let full : 32 ≤ _ = c.if-n-ge32.true in
@@ -39,11 +39,11 @@ returns-then-n-ge32 c =
 
 -- ---- 6: no slot held overlaps it
 
-
 abbrev began : After-overlaps_any → Start
 began c = c.before.before.before
 
-apart : (c : Else-overlaps_any) → any (overlaps (slot_at (began c.before))) (slots_in (entries_at (began c.before))) ≡ false
+apart : (c : Else-overlaps_any) → any (overlaps (slot_at (began c.before))) (slots_in (entries_at (began c.before)))
+    ≡ false
 apart c = sym c.overlaps_any.ensures ∙ c.if-overlaps_any.false
 
 pub returns-then-overlaps_any : goal.returns-then-overlaps_any
@@ -58,7 +58,6 @@ pub insert_slot-row-requires : goal.insert_slot-row-requires
 insert_slot-row-requires c = (c.if-n-ge32.false, (open_at (began c.before)).slots_row)
 
 -- ---- 10: a cell is left free
-
 
 abbrev clear : After-gate_of → Else-overlaps_any
 clear c = c.before.before.before

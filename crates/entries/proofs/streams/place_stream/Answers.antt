@@ -22,7 +22,6 @@ open_at c = open_entries _ c.requires.0 c.requires.1
 
 -- ---- 7: there is room
 
-
 pub returns-then-n-ge64 : goal.returns-then-n-ge64
 returns-then-n-ge64 c =
     let b = c.before.before.before in
@@ -30,7 +29,6 @@ returns-then-n-ge64 c =
     (add_stream_full (entries_at b) (stream_at b) (open_at b) b.requires.2 c.if-n-ge64.true)
 
 -- ---- 8: no stream held has its id
-
 
 abbrev began : After-stream_place-p → Start
 began c = c.before.before.before.before
@@ -57,5 +55,6 @@ returns c =
     add_stream_accepts (entries_at b) (stream_at b) h b.requires.2 t.if-n-ge64.false _
     t.stream_place-p.ensures.0 k.if-p-n.false in
     let row = add_stream_row (entries_at b) (stream_at b) h _ i.insert_stream-row.ensures in
-    acceptance_edits (entries_at b) _ _ _ (add_stream_sound (stream_at b) (held_in (entries_at b)) _ b.requires.0.sound a)
+    acceptance_edits (entries_at b) _ _ _ (add_stream_sound (stream_at b) (held_in (entries_at b)) _
+    b.requires.0.sound a)
     (c.accept.ensures ∙ ap accepting (c.with_streams.ensures ∙ row)) a
