@@ -2,58 +2,40 @@
 // `report`; here octets are read and written.
 #![tactic(auto)]
 
-ghost use Rattle.std.specs.Prelude.{◌+◌, ◌≤◌, length};
+ghost use Rattle.std.specs.Prelude.{◌+◌, ◌≤◌, length, IfOk};
 
-use libc::{STDIN_FILENO, STDOUT_FILENO};
-
-// How many octets of the input were taken, and whether a read failed.
-#[derive(Clone, Copy)]
-struct Taken {
-    octets: usize,
-    failed: bool,
-}
+use anyhow::Context;
+use std::io;
+use std::io::Read;
 
 // One read into the buffer, from a place on; no octets at the end of the input.
-fn more(buf: &mut [u8], from: usize) -> Taken
+fn more(input: &mut impl Read, buf: &mut [u8], from: usize) -> io::Result<usize>
     requires { from ≤ length buf.old }
-    ensures { from + result.octets ≤ length buf.old }
+    ensures { IfOk result (λ n. from + n ≤ length buf.old) }
 {
-    let got = libc::read(STDIN_FILENO, &mut buf[from..]);
-    let failed = got < 0;
-    let octets = io::count(got, &buf[from..]);
-    Taken { octets, failed }
+    input.read(&mut buf[from..])
 }
 
 // Reads until the buffer is full, the input ends or a read fails: a pipe gives its octets in parts.
-fn fill(buf: &mut [u8]) -> Taken
-    ensures { result.octets ≤ length buf.new }
+fn fill(input: &mut impl Read, buf: &mut [u8]) -> io::Result<usize>
+    ensures { IfOk result (λ n. n ≤ length buf.new) }
 {
     let mut n: usize = 0;
-    let mut failed = false;
     while n < buf.len() {
-        let part = more(buf, n);
-        failed = part.failed;
-        let k = part.octets;
+        let k = more(input, buf, n)?;
         if k == 0 {
             break;
         }
         n += k;
     }
-    Taken { octets: n, failed }
+    Ok(n)
 }
 
-fn main() {
-    let mut input = io::buffer();
+fn main(rt: HostRuntime) -> anyhow::Result<()> {
+    let mut input = [0u8; 4_096];
     let mut text = report::room();
-    let taken = fill(&mut input);
-    if taken.failed {
-        os::fail(b"findings: standard input");
-        return;
-    }
-    let n = taken.octets;
+    let n = fill(&mut rt.stdin(), &mut input).context("findings: standard input")?;
     let k = report::answer(&input[..n], &mut text);
-    let written = io::write_all(STDOUT_FILENO, &text[..k]);
-    if !written {
-        os::fail(b"findings: standard output");
-    }
+    rt.write_all(&text[..k])
+        .context("findings: standard output")
 }
