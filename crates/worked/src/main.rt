@@ -24,8 +24,9 @@ fn show_runs(rt: &impl Print, r: RunRow) -> io::Result<()>
 fn show_stairs(rt: &impl Print, t: Table) -> io::Result<()>
     requires { t.n ≤ 993 }
 {
-    for i in 0..t.n {
-        println!(rt; "stair {} {}", t.far[i], t.tot[i])?;
+    let Table { n, far, tot } = t;
+    for i in 0..n {
+        println!(rt; "stair {} {}", far[i], tot[i])?;
     }
     Ok(())
 }
