@@ -10,27 +10,26 @@ mod script;
 use answers::{Figure, Verdict};
 use desk::{Desk, EditReply};
 use gate::RunRow;
-use libc::STDOUT_FILENO;
 use meaning::Refusal;
 use ranges::{PortNumbers, StreamNumbers};
 use script::{CALLS, NUMBERS};
+use std::io;
 use table::Table;
 
-// A number, and a blank or the line's end behind it.
-fn put(x: u64, last: bool) {
-    io::print_decimal(STDOUT_FILENO, x);
-    if last {
-        io::write_all(STDOUT_FILENO, b"\n");
-    } else {
-        io::write_all(STDOUT_FILENO, b" ");
-    }
+// What a call answers, beside the desk.
+#[derive(Clone, Copy)]
+enum Answer {
+    Edit(Verdict),
+    Runs(Verdict, RunRow),
+    Stairs(Verdict, Table),
+    Figure(Figure),
 }
 
-// A line of a run or a stair.
-fn put_pair(a: u32, b: u32) {
-    io::write_all(STDOUT_FILENO, b"  ");
-    put(a as u64, false);
-    put(b as u64, true);
+// A call's answer, and the desk that goes on.
+#[derive(Clone, Copy)]
+struct Made {
+    answer: Answer,
+    desk: Desk,
 }
 
 // The bound that a refusal carries, 0 where it carries none.
@@ -48,103 +47,98 @@ fn verdict_number(v: Verdict) -> u64 {
     }
 }
 
-// An edit's line; the desk goes on.
-fn edited(r: EditReply) -> Desk
-    requires { Fit r.desk }
-    ensures { Fit result }
-{
-    let v = r.verdict;
-    put(verdict_number(v), false);
-    put(0, true);
-    r.desk
-}
-
 // A figure's number and value.
-fn put_figure(f: Figure) {
+fn put_figure(rt: &impl Print, f: Figure) -> io::Result<()> {
     match f {
-        Figure::Is(x) => {
-            put(0, false);
-            put(x, true);
-        }
-        Figure::Refused(r) => {
-            put(answers::number(r), false);
-            put(carried(r), true);
-        }
+        Figure::Is(x) => println!(rt; "0 {x}"),
+        Figure::Refused(r) => println!(rt; "{} {}", answers::number(r), carried(r)),
     }
 }
 
 // The runs that are there.
-fn put_runs(r: RunRow) {
-    let n = r.n;
-    let row = r.row;
-    put(n as u64, true);
-    let mut i: usize = 0;
-    while i < 32 {
-        if i < n {
-            let x = row[i];
-            put_pair(x.start, x.len);
-        }
-        i += 1;
+fn put_runs(rt: &impl Print, r: RunRow) -> io::Result<()> {
+    println!(rt; "{}", r.n)?;
+    for x in r.row.iter().take(r.n) {
+        println!(rt; "  {} {}", x.start, x.len)?;
     }
+    Ok(())
 }
 
 // The stairs that are there.
-fn put_stairs(t: Table) {
-    let n = t.n;
-    let far = t.far;
-    let tot = t.tot;
-    put(n as u64, true);
-    let mut i: usize = 0;
-    while i < 993 {
-        if i < n {
-            put_pair(far[i], tot[i]);
+fn put_stairs(rt: &impl Print, t: Table) -> io::Result<()> {
+    println!(rt; "{}", t.n)?;
+    for (far, tot) in t.far.iter().zip(t.tot.iter()).take(t.n) {
+        println!(rt; "  {far} {tot}")?;
+    }
+    Ok(())
+}
+
+// The rest of a call's line, and the lines of runs and stairs behind it.
+fn put_answer(rt: &impl Print, a: Answer) -> io::Result<()> {
+    match a {
+        Answer::Edit(v) => println!(rt; "{} 0", verdict_number(v)),
+        Answer::Runs(v, runs) => {
+            print!(rt; "{} ", verdict_number(v))?;
+            put_runs(rt, runs)
         }
-        i += 1;
+        Answer::Stairs(v, stairs) => {
+            print!(rt; "{} ", verdict_number(v))?;
+            put_stairs(rt, stairs)
+        }
+        Answer::Figure(f) => put_figure(rt, f),
+    }
+}
+
+// An edit's answer; the desk goes on.
+fn edited(r: EditReply) -> Made
+    requires { Fit r.desk }
+    ensures { Fit result.desk }
+{
+    Made {
+        answer: Answer::Edit(r.verdict),
+        desk: r.desk,
     }
 }
 
 // Asks for the runs or the stairs.
-fn ask_rows(d: Desk, kind: u64) -> Desk
+fn ask_rows(d: Desk, kind: u64) -> Made
     requires { Fit d }
-    ensures { Fit result }
+    ensures { Fit result.desk }
 {
     if kind == 6 {
         let a = questions::runs(d);
-        let v = a.verdict;
-        put(verdict_number(v), false);
-        let rows = a.runs;
-        put_runs(rows);
-        return a.desk;
+        return Made {
+            answer: Answer::Runs(a.verdict, a.runs),
+            desk: a.desk,
+        };
     }
     let b = questions::stairs(d);
-    let w = b.verdict;
-    put(verdict_number(w), false);
-    let rows = b.stairs;
-    put_stairs(rows);
-    b.desk
+    Made {
+        answer: Answer::Stairs(b.verdict, b.stairs),
+        desk: b.desk,
+    }
 }
 
 // Asks for interference or a response.
-fn ask_figure(d: Desk, kind: u64, x: u64) -> Desk
+fn ask_figure(d: Desk, kind: u64, x: u64) -> Made
     requires { Fit d }
-    ensures { Fit result }
+    ensures { Fit result.desk }
 {
-    if kind == 8 {
-        let a = questions::interference(d, x);
-        let f = a.figure;
-        put_figure(f);
-        return a.desk;
+    let a = if kind == 8 {
+        questions::interference(d, x)
+    } else {
+        questions::response(d, x)
+    };
+    Made {
+        answer: Answer::Figure(a.figure),
+        desk: a.desk,
     }
-    let b = questions::response(d, x);
-    let f = b.figure;
-    put_figure(f);
-    b.desk
 }
 
 // Adds or removes a slot or a stream, by its six numbers.
-fn edit(d: Desk, kind: u64, j: StreamNumbers) -> Desk
+fn edit(d: Desk, kind: u64, j: StreamNumbers) -> Made
     requires { Fit d }
-    ensures { Fit result }
+    ensures { Fit result.desk }
 {
     if kind == 2 {
         return edited(desk::add_slot(d, j.id, j.priority));
@@ -159,18 +153,19 @@ fn edit(d: Desk, kind: u64, j: StreamNumbers) -> Desk
 }
 
 // A new desk.
-fn anew() -> Desk
-    ensures { Fit result }
+fn anew() -> Made
+    ensures { Fit result.desk }
 {
-    put(0, false);
-    put(0, true);
-    desk::bare()
+    Made {
+        answer: Answer::Edit(Verdict::Accepted),
+        desk: desk::bare(),
+    }
 }
 
 // Opens a port.
-fn opened(d: Desk, j: StreamNumbers) -> Desk
+fn opened(d: Desk, j: StreamNumbers) -> Made
     requires { Fit d }
-    ensures { Fit result }
+    ensures { Fit result.desk }
 {
     let p = PortNumbers {
         rate: j.id,
@@ -182,9 +177,9 @@ fn opened(d: Desk, j: StreamNumbers) -> Desk
 }
 
 // One call of the table.
-fn make(d: Desk, kind: u64, j: StreamNumbers) -> Desk
+fn make(d: Desk, kind: u64, j: StreamNumbers) -> Made
     requires { Fit d }
-    ensures { Fit result }
+    ensures { Fit result.desk }
 {
     match kind {
         0 => anew(),
@@ -217,14 +212,14 @@ fn numbers(i: usize) -> StreamNumbers
     }
 }
 
-fn main() {
+fn main(rt: HostRuntime) -> io::Result<()> {
     let mut d = desk::bare();
-    let mut i: usize = 0;
-    while i < CALLS {
+    for i in 0..CALLS {
         let kind = number(i * 7);
-        put(i as u64, false);
-        put(kind, false);
-        d = make(d, kind, numbers(i));
-        i += 1;
+        print!(rt; "{i} {kind} ")?;
+        let made = make(d, kind, numbers(i));
+        put_answer(&rt, made.answer)?;
+        d = made.desk;
     }
+    Ok(())
 }

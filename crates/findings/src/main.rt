@@ -1,59 +1,58 @@
-// Prints the findings of the plan on standard input (document 01, "Findings program"). What it prints is proved in
-// `report`; here octets are read and written.
+// Prints the findings of the plan on standard input (document 01, "Findings program"). The text is made in `report`;
+// here octets are read and written.
 #![tactic(auto)]
 
-ghost use Rattle.std.specs.Prelude.{◌+◌, ◌≤◌, length};
+ghost use Rattle.std.specs.Prelude.{◌≡◌, ◌+◌, ◌<◌, ◌≤◌, length, take, drop, IfOk, IfSome};
+ghost use Rattle.std.specs.Io.KnownBytes.{Consumes, IsAtEnd, ReadConsumes};
+ghost use Rattle.meaning.specs.Findings.{findings};
+ghost use Rattle.lines.specs.Texts.{Wrote};
 
-use libc::{STDIN_FILENO, STDOUT_FILENO};
+use anyhow::Context;
+use std::io;
+use std::io::Read;
 
-// How many octets of the input were taken, and whether a read failed.
-#[derive(Clone, Copy)]
-struct Taken {
-    octets: usize,
-    failed: bool,
-}
-
-// One read into the buffer, from a place on; no octets at the end of the input.
-fn more(buf: &mut [u8], from: usize) -> Taken
+// One read into the buffer, from a place on; no octets at the end of the input. What stands before the place is kept.
+fn more<R: Read>(input: &mut R, buf: &mut [u8], from: usize) -> io::Result<usize>
     requires { from ≤ length buf.old }
-    ensures { from + result.octets ≤ length buf.old }
+    ensures in_bounds { IfOk result (λ n. from + n ≤ length buf.old) }
+    ensures kept { take from buf.new ≡ take from buf.old }
+    ensures octets { ReadConsumes (R.remaining input.old) (R.remaining input.new) result (drop from buf.new) }
 {
-    let got = libc::read(STDIN_FILENO, &mut buf[from..]);
-    let failed = got < 0;
-    let octets = io::count(got, &buf[from..]);
-    Taken { octets, failed }
+    input.read(&mut buf[from..])
 }
 
 // Reads until the buffer is full, the input ends or a read fails: a pipe gives its octets in parts.
-fn fill(buf: &mut [u8]) -> Taken
-    ensures { result.octets ≤ length buf.new }
+fn fill<R: Read>(input: &mut R, buf: &mut [u8]) -> io::Result<usize>
+    ensures in_bounds { IfOk result (λ n. n ≤ length buf.new) }
+    ensures octets { IfOk result (λ n. Consumes (R.remaining input.old) (R.remaining input.new) (take n buf.new)) }
+    ensures end { IfOk result (λ n. n < length buf.new → IsAtEnd (R.remaining input.new)) }
 {
     let mut n: usize = 0;
-    let mut failed = false;
     while n < buf.len() {
-        let part = more(buf, n);
-        failed = part.failed;
-        let k = part.octets;
+        let k = more(input, buf, n)?;
         if k == 0 {
             break;
         }
         n += k;
     }
-    Taken { octets: n, failed }
+    Ok(n)
 }
 
-fn main() {
-    let mut input = io::buffer();
+// The findings of an input, in front of a room for their text: of the whole input, from its first 4,096 octets.
+fn answer<R: Read>(input: &mut R, text: &mut [u8]) -> io::Result<usize>
+    requires { 32_768 ≤ length text.old }
+    ensures in_bounds { IfOk result (λ k. k ≤ length text.new) }
+    ensures text { IfOk result (λ k. IfSome (R.remaining input.old)
+        (λ octets. Wrote (findings octets) k text.old text.new)) }
+{
+    let mut taken = [0u8; 4_096];
+    let n = fill(input, &mut taken)?;
+    Ok(report::answer(&taken[..n], text))
+}
+
+fn main(rt: HostRuntime) -> anyhow::Result<()> {
     let mut text = report::room();
-    let taken = fill(&mut input);
-    if taken.failed {
-        os::fail(b"findings: standard input");
-        return;
-    }
-    let n = taken.octets;
-    let k = report::answer(&input[..n], &mut text);
-    let written = io::write_all(STDOUT_FILENO, &text[..k]);
-    if !written {
-        os::fail(b"findings: standard output");
-    }
+    let k = answer(&mut rt.stdin(), &mut text).context("findings: standard input")?;
+    rt.write_all(&text[..k])
+        .context("findings: standard output")
 }

@@ -6,72 +6,62 @@
 ghost use Rattle.std.specs.Prelude.{◌≡◌, length};
 ghost use Rattle.desk.specs.Desks.{Fit};
 
+use anyhow::Context;
 use desk::Desk;
-use libc::STDOUT_FILENO;
 use reader::ReadAnswer;
+use std::io::Read;
+use std::rt::Files;
+use std::{env, fs, io};
 use writer::WriteAnswer;
 
 // The longest input, and the room for the writer.
-const LONGEST: usize = 8_192;
+const LONGEST: u64 = 8_192;
 
 const ROOM: usize = 1_700;
 
 // Two numbers, each behind a blank.
-fn put(a: u64, b: u64) {
-    io::write_all(STDOUT_FILENO, b" ");
-    io::print_decimal(STDOUT_FILENO, a);
-    io::write_all(STDOUT_FILENO, b" ");
-    io::print_decimal(STDOUT_FILENO, b);
+fn put(rt: &impl Print, a: u64, b: u64) -> io::Result<()> {
+    print!(rt; " {a} {b}")
 }
 
-fn put_read(a: ReadAnswer) {
+fn put_read(rt: &impl Print, a: ReadAnswer) -> io::Result<()> {
     match a {
-        ReadAnswer::Read => put(0, 0),
-        ReadAnswer::Refused { why, place } => put(answers::number(why), place as u64),
+        ReadAnswer::Read => put(rt, 0, 0),
+        ReadAnswer::Refused { why, place } => put(rt, answers::number(why), place as u64),
     }
 }
 
 // The writer's answer; its count.
-fn put_written(a: WriteAnswer) -> usize {
+fn put_written(rt: &impl Print, a: WriteAnswer) -> io::Result<usize> {
     match a {
         WriteAnswer::Wrote(n) => {
-            put(0, n as u64);
-            n
+            put(rt, 0, n as u64)?;
+            Ok(n)
         }
         WriteAnswer::Refused(why) => {
-            put(answers::number(why), 0);
-            0
+            put(rt, answers::number(why), 0)?;
+            Ok(0)
         }
     }
-}
-
-// An octet as a number.
-fn wide(octet: u8) -> u64 {
-    octet as u64
 }
 
 // The octets of the room from its front, in hex: n of them and four more.
-fn put_room(room: &[u8], n: usize) {
-    io::write_all(STDOUT_FILENO, b" ");
-    let mut i: usize = 0;
-    while i < room.len() {
-        if i < 4 || i - 4 < n {
-            io::print_hex(STDOUT_FILENO, wide(room[i]), 2);
-        }
-        i += 1;
+fn put_room(rt: &impl Print, room: &[u8], n: usize) -> io::Result<()> {
+    print!(rt; " ")?;
+    for octet in room.iter().take(n.saturating_add(4)) {
+        print!(rt; "{octet:02x}")?;
     }
-    io::write_all(STDOUT_FILENO, b"\n");
+    println!(rt; "")
 }
 
 // Writes a desk into a room, and prints the answer and the room's front.
-fn put_desk(d: Desk, room: &mut [u8]) -> usize
+fn put_desk(rt: &impl Print, d: Desk, room: &mut [u8]) -> io::Result<usize>
     requires { Fit d }
 {
     let w = writer::write(d, room);
-    let a = w.answer;
-    let count = put_written(a);
-    put_room(room, count);
-    count
+    let count = put_written(rt, w.answer)?;
+    put_room(rt, room, count)?;
+    Ok(count)
 }
 
 // A room of which every octet is 170.
@@ -82,50 +72,42 @@ fn fresh() -> [u8; ROOM]
 }
 
 // A desk written into a room of n octets.
-fn put_short(d: Desk, n: usize)
+fn put_short(rt: &impl Print, d: Desk, n: usize) -> io::Result<()>
     requires { Fit d }
 {
     let mut room = fresh();
     if n <= ROOM {
-        io::write_all(STDOUT_FILENO, b" ");
-        put_desk(d, &mut room[..n]);
+        print!(rt; " ")?;
+        put_desk(rt, d, &mut room[..n])?;
     }
+    Ok(())
 }
 
-// Reads the file, and writes its plan into the whole room and into one octet less than it takes.
-fn show(fd: i32) {
-    let mut octets = [0u8; LONGEST];
-    let n = io::read_full(fd, &mut octets);
-    let r = reader::read(&octets[..n]);
-    let a = r.answer;
-    let d = r.desk;
-    put_read(a);
+// Reads an input, and writes its plan into the whole room and into one octet less than it takes.
+fn show(rt: &impl Print, input: &[u8]) -> io::Result<()> {
+    let r = reader::read(input);
+    put_read(rt, r.answer)?;
     let mut room = fresh();
-    let count = put_desk(d, &mut room);
+    let count = put_desk(rt, r.desk, &mut room)?;
     if 0 < count {
-        put_short(d, count - 1);
+        put_short(rt, r.desk, count - 1)?;
     }
+    Ok(())
 }
 
 // The file of an argument.
-fn show_file(i: usize) {
-    let mut path = io::buffer();
-    let n = os::arg(i, &mut path);
-    io::write_all(STDOUT_FILENO, &path[..n]);
-    let fd = os::open_read(&path[..n]);
-    if fd < 0 {
-        os::fail(&path[..n]);
-        return;
-    }
-    show(fd);
-    libc::close(fd);
+fn show_file<R: Print + Files + Alloc>(rt: &R, path: &str) -> anyhow::Result<()> {
+    print!(rt; "{path}")?;
+    let mut octets = Vec::new(rt.alloc());
+    let file = fs::open(rt, path).context(path)?;
+    file.take(LONGEST).read_to_end(&mut octets).context(path)?;
+    show(rt, &octets)?;
+    Ok(())
 }
 
-fn main() {
-    let n = os::arg_count();
-    let mut i: usize = 1;
-    while i < n {
-        show_file(i);
-        i += 1;
+fn main(rt: HostRuntime) -> anyhow::Result<()> {
+    for path in env::args(&rt)?.skip(1) {
+        show_file(&rt, path.as_str())?;
     }
+    Ok(())
 }

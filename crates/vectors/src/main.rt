@@ -1,37 +1,31 @@
 // Prints the findings of each plan that its arguments name, behind a line with the name.
 #![tactic(auto)]
 
-use libc::STDOUT_FILENO;
+use anyhow::Context;
+use std::io::Read;
+use std::rt::Files;
+use std::{env, fs, io};
 
-// The findings of the file, from its first 4,096 octets.
-fn show(fd: i32) {
-    let mut input = io::buffer();
+// The findings of an input, from its first 4,096 octets.
+fn show(rt: &impl Print, taken: &[u8]) -> io::Result<()> {
     let mut text = report::room();
-    let n = io::read_full(fd, &mut input);
-    let k = report::answer(&input[..n], &mut text);
-    io::write_all(STDOUT_FILENO, &text[..k]);
+    let k = report::answer(taken, &mut text);
+    rt.write_all(&text[..k])
 }
 
 // The file of an argument.
-fn show_file(i: usize) {
-    let mut path = io::buffer();
-    let n = os::arg(i, &mut path);
-    io::write_all(STDOUT_FILENO, &path[..n]);
-    io::write_all(STDOUT_FILENO, b"\n");
-    let fd = os::open_read(&path[..n]);
-    if fd < 0 {
-        os::fail(&path[..n]);
-        return;
-    }
-    show(fd);
-    libc::close(fd);
+fn show_file<R: Print + Files + Alloc>(rt: &R, path: &str) -> anyhow::Result<()> {
+    println!(rt; "{path}")?;
+    let mut taken = Vec::new(rt.alloc());
+    let file = fs::open(rt, path).context(path)?;
+    file.take(4_096).read_to_end(&mut taken).context(path)?;
+    show(rt, &taken)?;
+    Ok(())
 }
 
-fn main() {
-    let n = os::arg_count();
-    let mut i: usize = 1;
-    while i < n {
-        show_file(i);
-        i += 1;
+fn main(rt: HostRuntime) -> anyhow::Result<()> {
+    for path in env::args(&rt)?.skip(1) {
+        show_file(&rt, path.as_str())?;
     }
+    Ok(())
 }

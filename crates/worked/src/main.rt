@@ -6,58 +6,41 @@ ghost use Rattle.meaning.specs.Promises.{Chain};
 ghost use Rattle.gate.specs.Rows.{GateFits};
 
 use gate::RunRow;
-use libc::STDOUT_FILENO;
 use meaning::{Gate, Slot};
+use std::io;
 use table::Table;
 
-// A line of a word and two numbers.
-fn line(word: &[u8], a: u32, b: u32) {
-    io::write_all(STDOUT_FILENO, word);
-    io::write_all(STDOUT_FILENO, b" ");
-    io::print_decimal(STDOUT_FILENO, a as u64);
-    io::write_all(STDOUT_FILENO, b" ");
-    io::print_decimal(STDOUT_FILENO, b as u64);
-    io::write_all(STDOUT_FILENO, b"\n");
-}
-
 // A line for each run: its start and its length.
-fn show_runs(r: RunRow)
+fn show_runs(rt: &impl Print, r: RunRow) -> io::Result<()>
     requires { r.n ≤ 32 }
 {
-    let n = r.n;
-    let row = r.row;
-    let mut i: usize = 0;
-    while i < n {
-        let x = row[i];
-        line(b"run", x.start, x.len);
-        i += 1;
+    for x in &r.row[..r.n] {
+        println!(rt; "run {} {}", x.start, x.len)?;
     }
+    Ok(())
 }
 
 // A line for each stair: its distance and its total.
-fn show_stairs(t: Table)
+fn show_stairs(rt: &impl Print, t: Table) -> io::Result<()>
     requires { t.n ≤ 993 }
 {
-    let n = t.n;
-    let far = t.far;
-    let tot = t.tot;
-    let mut i: usize = 0;
-    while i < n {
-        line(b"stair", far[i], tot[i]);
-        i += 1;
+    let Table { n, far, tot } = t;
+    for i in 0..n {
+        println!(rt; "stair {} {}", far[i], tot[i])?;
     }
+    Ok(())
 }
 
 // The runs and stairs of slots that leave a cell free.
-fn show(g: Gate, slots: [Slot; 32], n: usize)
+fn show(rt: &impl Print, g: Gate, slots: [Slot; 32], n: usize) -> io::Result<()>
     requires { (n ≤ 32) × GateFits g × Chain 0 (take n slots) g.cycle }
 {
     if gate::some_free(g, slots, n) {
         let r = gate::find_runs(g, slots, n);
-        show_runs(r);
-        let row = r.row;
-        show_stairs(stairs::build(g.cycle, row, r.n));
+        show_runs(rt, r)?;
+        show_stairs(rt, stairs::build(g.cycle, r.row, r.n))?;
     }
+    Ok(())
 }
 
 // Three slots in a row.
@@ -72,7 +55,7 @@ fn three(a: Slot, b: Slot, c: Slot) -> [Slot; 32]
 }
 
 // Plan F of document 01.
-fn show_f() {
+fn show_f(rt: &impl Print) -> io::Result<()> {
     let g = Gate {
         cycle: 100_000,
         guard: 1_000,
@@ -90,11 +73,11 @@ fn show_f() {
         start: 60_000,
         end: 68_500,
     };
-    show(g, three(a, b, c), 3);
+    show(rt, g, three(a, b, c), 3)
 }
 
 // Document 000, Table I: a slot's guard of 1 stands before it, so that its runs are the table's slots.
-fn show_one() {
+fn show_one(rt: &impl Print) -> io::Result<()> {
     let g = Gate {
         cycle: 20_000,
         guard: 1,
@@ -112,10 +95,10 @@ fn show_one() {
         start: 14_001,
         end: 18_000,
     };
-    show(g, three(a, b, c), 3);
+    show(rt, g, three(a, b, c), 3)
 }
 
-fn main() {
-    show_f();
-    show_one();
+fn main(rt: HostRuntime) -> io::Result<()> {
+    show_f(&rt)?;
+    show_one(&rt)
 }
