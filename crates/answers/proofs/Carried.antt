@@ -1,6 +1,6 @@
 -- What a refusal carries: only a late stream's has a value.
 -- Assumes nothing.
-use mathlib.Core.Path.{◌≡◌, refl}
+use mathlib.Core.Path.{◌≡◌, refl, subst}
 use mathlib.Core.List.{List, [], ◌∷◌}
 use Prim.Native.Nat.{ℕ}
 use denote.Enum.Declared.{tag_of}
@@ -17,19 +17,24 @@ abbrev pub other_tags : List ℕ
 other_tags = 0 ∷ 1 ∷ 2 ∷ 3 ∷ 4 ∷ 5 ∷ 6 ∷ 7 ∷ 8 ∷ 9 ∷ 10 ∷ 11 ∷ 13 ∷ []
 
 -- no other refusal carries a value
-pub carries_none : (why : Refusal) → OneOf other_tags (tag_of the_type why) → values_of why ≡ []
+pub none_but_late : (why : Refusal) → ((x : ℕ) → why ≡ Late x → ⊥) → values_of why ≡ []
 unfolding values_of
-carries_none CutShort h = refl
-carries_none UnknownTag h = refl
-carries_none WrongLength h = refl
-carries_none OutOfTurn h = refl
-carries_none OutOfRange h = refl
-carries_none Overlap h = refl
-carries_none Full h = refl
-carries_none IdHeld h = refl
-carries_none NotHeld h = refl
-carries_none NoFreeCell h = refl
-carries_none NoRoom h = refl
-carries_none Endless h = refl
-carries_none (Late b) h = absurd (miss other_tags 12 tt h)
-carries_none OverHorizon h = refl
+none_but_late CutShort h = refl
+none_but_late UnknownTag h = refl
+none_but_late WrongLength h = refl
+none_but_late OutOfTurn h = refl
+none_but_late OutOfRange h = refl
+none_but_late Overlap h = refl
+none_but_late Full h = refl
+none_but_late IdHeld h = refl
+none_but_late NotHeld h = refl
+none_but_late NoFreeCell h = refl
+none_but_late NoRoom h = refl
+none_but_late Endless h = refl
+none_but_late (Late b) h = absurd (h b refl)
+none_but_late OverHorizon h = refl
+
+pub carries_none : (why : Refusal) → OneOf other_tags (tag_of the_type why) → values_of why ≡ []
+carries_none why h =
+    none_but_late why
+    (λ (x : ℕ) (e : why ≡ Late x). miss other_tags 12 tt (subst (λ (w : Refusal). OneOf other_tags (tag_of the_type w)) e h))

@@ -1,0 +1,6 @@
+-- `face::asking::told_figure` meets its contract.
+use borrow.Author.Rules.{rules}
+use Rattle.face.proofs.asking.told_figure.Goals as goal
+
+pub returns : goal.returns
+returns c = rw (c.figure_number-number.ensures, c.figure_value-value.ensures)

@@ -1,0 +1,17 @@
+-- `face::edits::desk_add_slot` meets its contract.
+use mathlib.Core.Path.{ap, ◌∙◌}
+use Rattle.face.specs.Told.{numbered}
+use Rattle.face.proofs.Given.{refused_keeps}
+use Rattle.face.proofs.edits.desk_add_slot.Goals as goal
+
+pub add_slot-requires : goal.add_slot-requires
+add_slot-requires c = c.requires
+
+pub told_edit-requires : goal.told_edit-requires
+told_edit-requires c = refused_keeps _ _ _ c.requires c.add_slot.ensures.0
+
+pub returns : goal.returns
+returns c =
+    let (same, fit) = c.add_slot.ensures in
+    let told = c.told_edit.ensures in
+    (told ∙ ap numbered same, rw told fit)
