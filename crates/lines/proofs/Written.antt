@@ -24,7 +24,8 @@ wrote_as {w} {v} {r} {xs} {a} e p = subst (λ (l : List ℕ). Wrote l a r xs) e 
 
 -- what is left is filled by a part and the line's end
 pub wrote_last : {w r xs ys : List ℕ} {a k : ℕ} (f e : List ℕ) → Wrote w a r xs
-    → Wrote (f ++ e) k (mid_of a (length xs - a) xs) ys → Wrote (w ++ f ++ e) (a + k) r (put_mid a (length xs - a) xs ys)
+    → Wrote (f ++ e) k (mid_of a (length xs - a) xs) ys
+    → Wrote (w ++ f ++ e) (a + k) r (put_mid a (length xs - a) xs ys)
 wrote_last {w} f e p q = wrote_as (sym (append_assoc w f e)) (wrote_next p q)
 
 -- the room keeps its length where there was room

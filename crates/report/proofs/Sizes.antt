@@ -24,8 +24,8 @@ use Rattle.meaning.specs.Interference.{all_len, pairs, stairs, interference}
 use Rattle.meaning.specs.Response.{others, lower_wire}
 use Rattle.meaning.specs.Calls.{bound_of}
 use Rattle.meaning.specs.Promises.{Sound}
-use Rattle.meaning.specs.Findings.{octets_in, decimal, told, newline, blocked_line, stair_line, verdict_words, stream_line}
-use Rattle.meaning.specs.Findings.{desk_lines}
+use Rattle.meaning.specs.Findings.{octets_in, decimal, told, newline, blocked_line, stair_line, verdict_words}
+use Rattle.meaning.specs.Findings.{stream_line, desk_lines}
 use Rattle.meaning.proofs.Decimals.{decimal_length}
 use Rattle.meaning.proofs.InRange.{port_in_lem, stream_in}
 use Rattle.meaning.proofs.ChainFree.{runs_few}

@@ -1,5 +1,5 @@
 -- `ahead::wire_of` meets its contract: the wire time that was answered fits, and is 0 where the rate was refused.
-use mathlib.Core.Path.{◌≡◌, sym, ◌∙◌}
+use mathlib.Core.Path.{◌≡◌}
 use Prim.Native.Nat.{◌≤◌}
 use native.Mathlib.Omega.{arith}
 use Rattle.meaning.specs.Wire.{wire_time}

@@ -2,7 +2,6 @@
 use Prim.Native.Nat.{◌+◌, ◌*◌, ◌≤◌}
 use native.Mathlib.Nat.{mul-le-mul}
 use native.Mathlib.Omega.{arith}
-use borrow.Author.Rules.{rules}
 use Rattle.arrivals.proofs.Arriving.{frames_under}
 use Rattle.arrivals.proofs.frames_at_least.Goals.{Start}
 use Rattle.arrivals.proofs.frames_at_least.Goals as goal

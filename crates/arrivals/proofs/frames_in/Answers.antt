@@ -2,7 +2,6 @@
 use Prim.Native.Nat.{◌+◌}
 use native.Mathlib.Nat.{div-le_self}
 use native.Mathlib.Omega.{arith}
-use borrow.Author.Rules.{rules}
 use Rattle.arrivals.proofs.Arriving.{frames_computed, frames_few}
 use Rattle.arrivals.proofs.frames_in.Goals as goal
 

@@ -2,7 +2,6 @@
 use Prim.Native.Nat.{◌*◌, ◌/◌, ◌≤◌}
 use native.Mathlib.Nat.{div-mul-le_self, mul-le-mul_left}
 use native.Mathlib.Omega.{arith}
-use borrow.Author.Rules.{rules}
 use Rattle.arrivals.proofs.inverse.Goals.{Start}
 use Rattle.arrivals.proofs.inverse.Goals as goal
 

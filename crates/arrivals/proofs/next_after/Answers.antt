@@ -2,7 +2,6 @@
 use mathlib.Core.Path.{◌≡◌}
 use Prim.Native.Nat.{◌+◌, ◌-◌, ◌*◌, ◌≤◌, ◌<◌}
 use native.Mathlib.Omega.{arith}
-use borrow.Author.Rules.{rules}
 use Rattle.meaning.proofs.Later.{next_of}
 use Rattle.arrivals.specs.Rows.{row_stream}
 use Rattle.arrivals.proofs.Arriving.{next_computed, next_near}

@@ -1,6 +1,5 @@
 -- `arrivals::step` meets its contract.
 use native.Mathlib.Omega.{arith}
-use borrow.Author.Rules.{rules}
 use Rattle.arrivals.proofs.Counting.{stepped_came, stepped_stays}
 use Rattle.arrivals.proofs.step.Goals as goal
 

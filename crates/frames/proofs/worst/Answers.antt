@@ -3,13 +3,12 @@
 use mathlib.Core.Path.{◌≡◌, refl}
 use Prim.Native.Nat.{◌+◌, ◌-◌, ◌*◌, ◌≤◌, ◌<◌, zero-le}
 use native.Mathlib.Omega.{arith}
-use Rattle.arrivals.specs.Rows.{RowsCounted}
 use Rattle.search.specs.Searches.{table_of, row_demand, Closes}
 use Rattle.arrivals.proofs.Places.{one_more}
 use Rattle.arrivals.proofs.Arriving.{next_near}
 use Rattle.arrivals.proofs.Counting.{rows_on}
 use Rattle.search.proofs.Searching.{base_soon}
-use Rattle.frames.proofs.Framing.{first, FrameNumbers, FramesDone, numbers_start, numbers_next, later_soon}
+use Rattle.frames.proofs.Framing.{first, numbers_start, numbers_next, later_soon}
 use Rattle.frames.proofs.Framing.{cold_start, frame_closes, frame_under, frame_sent, frames_start, frames_next}
 use Rattle.frames.proofs.Framing.{frames_end, sent_later}
 use Rattle.frames.proofs.worst.Goals.{After-settle-s, At-loop-k, In-loop-k, Start}

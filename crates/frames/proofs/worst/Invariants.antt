@@ -1,17 +1,9 @@
 -- `frames::worst` meets its contract. The invariant: k frames are done, and what is counted has come by w. The
 -- measure: the frames left.
-use mathlib.Core.Path.{◌≡◌, refl}
-use Prim.Native.Nat.{◌+◌, ◌-◌, ◌*◌, ◌≤◌, ◌<◌, zero-le}
-use native.Mathlib.Omega.{arith}
+use Prim.Native.Nat.{◌-◌, ◌≤◌}
 use Rattle.arrivals.specs.Rows.{RowsCounted}
-use Rattle.search.specs.Searches.{table_of, row_demand, Closes}
-use Rattle.arrivals.proofs.Places.{one_more}
-use Rattle.arrivals.proofs.Arriving.{next_near}
-use Rattle.arrivals.proofs.Counting.{rows_on}
-use Rattle.search.proofs.Searching.{base_soon}
-use Rattle.frames.proofs.Framing.{first, FrameNumbers, FramesDone, numbers_start, numbers_next, later_soon}
-use Rattle.frames.proofs.Framing.{cold_start, frame_closes, frame_under, frame_sent, frames_start, frames_next}
-use Rattle.frames.proofs.Framing.{frames_end, sent_later}
+use Rattle.search.specs.Searches.{table_of}
+use Rattle.frames.proofs.Framing.{FrameNumbers, FramesDone}
 use Rattle.frames.proofs.worst.Given as goal
 
 abbrev pub invariant-loop-k : goal.invariant-loop-k

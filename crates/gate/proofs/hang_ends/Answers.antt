@@ -1,10 +1,9 @@
 -- `gate::hang_ends` meets its contract: the ends are filled in from the last slot back.
 use mathlib.Core.Path.{◌≡◌, ◌∙◌}
-use mathlib.Core.Logic.{⊎_elim}
 use mathlib.Core.Bool.{cond}
 use Prim.Native.Nat.{◌+◌, ◌-◌, ◌<◌}
 use lib.Dec.{leb}
-use lib.ListN.{length, get_or, replicate, length-set}
+use lib.ListN.{get_or, replicate, length-set}
 use Rattle.meaning.proofs.ChainCells.{reach_of}
 use Rattle.gate.proofs.Numbers.{
   reach_fits,
@@ -21,7 +20,7 @@ use Rattle.gate.proofs.Numbers.{
   chosen_le,
   else_le,
 }
-use Rattle.gate.proofs.Hangs.{slot_at, Held, hold, slot_in, Hangs, hangs_start, hangs_turn}
+use Rattle.gate.proofs.Hangs.{slot_at, Held, hold, slot_in, hangs_start, hangs_turn}
 use borrow.Author.Rules.{rules}
 use Rattle.gate.proofs.hang_ends.Goals.{At-loop-i, Joined-t-s, Start, then-t-s, else-t-s}
 use Rattle.gate.proofs.hang_ends.Goals as goal
@@ -44,8 +43,8 @@ stored c =
     let s = (slot_at a.slots (k.loop-i.i - 1)).end in
     let x = get_or k.loop-i.ends k.loop-i.i 0 in
     elim c.if-t-s.branch [
-      then-t-s w ↦ chosen_le t (s + reach_of a.g) x s w.if-t-s.true w.e-is
-    | else-t-s w ↦ else_le t (s + reach_of a.g) x s w.if-t-s.false w.e-is
+      | then-t-s w ↦ chosen_le t (s + reach_of a.g) x s w.if-t-s.true w.e-is
+      | else-t-s w ↦ else_le t (s + reach_of a.g) x s w.if-t-s.false w.e-is
     ]
 
 -- the last slot's place, that of a turn's slot, and that before it

@@ -1,6 +1,5 @@
 -- `gate::run_with` meets its contract: each test of the code is that of the definition.
 use mathlib.Core.Path.{◌≡◌}
-use mathlib.Core.Logic.{⊎_elim}
 use mathlib.Core.Bool.{cond}
 use Prim.Native.Nat.{◌+◌, ◌-◌, ◌≤◌}
 use native.Mathlib.Nat.{le_trans, le-add_right}
@@ -32,8 +31,8 @@ start_is c =
     let x = a.s.start + a.g.cycle - a.g.guard in
     let y = a.s.start - a.g.guard in
     elim c.if-s-g.branch [
-      then-s-g w ↦ chosen_lt a.s.start a.g.guard x y w.if-s-g.true w.start-is
-    | else-s-g w ↦ else_lt a.s.start a.g.guard x y w.if-s-g.false w.start-is
+      | then-s-g w ↦ chosen_lt a.s.start a.g.guard x y w.if-s-g.true w.start-is
+      | else-s-g w ↦ else_lt a.s.start a.g.guard x y w.if-s-g.false w.start-is
     ]
 
 -- the stop, by the test on the first slot
@@ -45,8 +44,8 @@ stop_is c =
     let x = a.first + a.g.cycle in
     let y = a.e + reach_of a.g in
     elim c.if-first-g.branch [
-      then-first-g w ↦ chosen_le x y (a.far + a.g.cycle) a.e w.if-first-g.true w.stop-is
-    | else-first-g w ↦ else_le x y (a.far + a.g.cycle) a.e w.if-first-g.false w.stop-is
+      | then-first-g w ↦ chosen_le x y (a.far + a.g.cycle) a.e w.if-first-g.true w.stop-is
+      | else-first-g w ↦ else_le x y (a.far + a.g.cycle) a.e w.if-first-g.false w.stop-is
     ]
 
 -- it comes behind the slot's start, before the second cycle's end
@@ -56,8 +55,8 @@ stop_in : (c : Joined-first-g)
 stop_in c =
     let p = c.requires in
     elim c.if-first-g.branch [
-      then-first-g w ↦ stop_far p.4 p.3 p.2 w.stop-is
-    | else-first-g w ↦ stop_near p.4 p.3 w.stop-is
+      | then-first-g w ↦ stop_far p.4 p.3 p.2 w.stop-is
+      | else-first-g w ↦ stop_near p.4 p.3 w.stop-is
     ]
 
 pub overflow_add-reach : goal.overflow_add-reach

@@ -1,29 +1,14 @@
 -- `gate::runs_from` meets its contract: the row is filled with the runs that the slots passed start.
-use mathlib.Core.Logic.{⊎_elim}
-use Prim.Native.Nat.{◌+◌, ◌-◌, ◌≤◌, ◌<◌, zero-le}
+use Prim.Native.Nat.{◌+◌, ◌≤◌, ◌<◌, zero-le}
 use native.Mathlib.Nat.{le_refl, le_trans}
 use lib.ListN.{get_or}
 use Rattle.meaning.proofs.ChainCells.{reach_of}
 use Rattle.gate.specs.Rows.{no_run}
-use Rattle.laws.proofs.Filling.{Filling, filling_start}
-use Rattle.gate.proofs.Numbers.{
-  reach_fits,
-  round_fits,
-  far_fits,
-  slot_fits,
-  end_fits,
-  next_fits,
-  place_in,
-  row_in,
-  less_left,
-  next_in,
-  start_in,
-  end_in,
-  guard_in,
-}
+use Rattle.laws.proofs.Filling.{filling_start}
+use Rattle.gate.proofs.Numbers.{reach_fits, round_fits, far_fits, slot_fits, next_fits, place_in, row_in, less_left, next_in, start_in, end_in, guard_in}
 use Rattle.gate.proofs.Rows.{row_filled}
 use Rattle.gate.proofs.Hangs.{slot_at, Held, hold, Stopping, stop_all, stop_in}
-use Rattle.gate.proofs.Turns.{left, left_none, turn_wide, turn_narrow}
+use Rattle.gate.proofs.Turns.{left_none, turn_wide, turn_narrow}
 use borrow.Author.Rules.{rules}
 use Rattle.gate.proofs.runs_from.Goals.{After-struct_known-in-loop-i-4-1, In-loop-i, Start, Then-end-reach}
 use Rattle.gate.proofs.runs_from.Goals as goal
@@ -132,16 +117,16 @@ loop-i-preserved c =
     let more = next_in h.loop-i-test.true in
     let on = end_in here.1 here.2 in
     elim c.if-end-reach.branch [
-      then-end-reach w ↦
-        let (few, f) =
-            turn_wide (held s) (stopping s) k.loop-i.end k.loop-i.i h.loop-i-test.true s.requires.1
-            k.loop-i.invariant.2 k.loop-i.invariant.3 w.if-end-reach.true w.run_with.ensures w.row-is w.m-is in
-        (more, on, few, f)
-    | else-end-reach w ↦
-        let (few, f) =
-            turn_narrow (held s) k.loop-i.end k.loop-i.i h.loop-i-test.true k.loop-i.invariant.2
-            k.loop-i.invariant.3 w.if-end-reach.false w.row-is w.m-is in
-        (more, on, few, f)
+      | then-end-reach w ↦
+          let (few, f) =
+          turn_wide (held s) (stopping s) k.loop-i.end k.loop-i.i h.loop-i-test.true s.requires.1
+          k.loop-i.invariant.2 k.loop-i.invariant.3 w.if-end-reach.true w.run_with.ensures w.row-is w.m-is in
+          (more, on, few, f)
+      | else-end-reach w ↦
+          let (few, f) =
+          turn_narrow (held s) k.loop-i.end k.loop-i.i h.loop-i-test.true k.loop-i.invariant.2
+          k.loop-i.invariant.3 w.if-end-reach.false w.row-is w.m-is in
+          (more, on, few, f)
     ]
 
 pub returns : goal.returns

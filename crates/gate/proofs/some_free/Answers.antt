@@ -1,6 +1,6 @@
 -- `gate::some_free` meets its contract: some cell is free exactly where a run is left.
-use mathlib.Core.Path.{◌≡◌, sym, ap, ◌∙◌}
-use Prim.Native.Nat.{ℕ, ◌+◌, ◌-◌, ◌≤◌, ◌<◌, zero-le}
+use mathlib.Core.Path.{sym, ap, ◌∙◌}
+use Prim.Native.Nat.{ℕ, ◌-◌, ◌≤◌, ◌<◌, zero-le}
 use native.Mathlib.Nat.{le_refl}
 use lib.ListN.{take}
 use Rattle.meaning.specs.Runs.{has_free}
@@ -22,7 +22,7 @@ use Rattle.gate.proofs.Numbers.{
 }
 use Rattle.gate.proofs.Walks.{free_none}
 use Rattle.gate.proofs.Hangs.{slot_at, Held, hold, slot_in}
-use Rattle.gate.proofs.Turns.{some_left, some_start, some_wide, some_narrow, some_none}
+use Rattle.gate.proofs.Turns.{some_start, some_wide, some_narrow, some_none}
 use borrow.Author.Rules.{rules}
 use Rattle.gate.proofs.some_free.Goals.{After-struct_known-in-loop-i-4-1, Else-n-eq0, In-loop-i}
 use Rattle.gate.proofs.some_free.Goals as goal

@@ -1,6 +1,5 @@
 -- `lines::put_of` meets its contract: the second number fills the front of what the first leaves.
 use native.Mathlib.Omega.{arith}
-use borrow.Author.Rules.{rules}
 use Rattle.meaning.specs.Findings.{octets_in, told}
 use Rattle.lines.proofs.Written.{wrote_next}
 use Rattle.lines.proofs.put_of.Goals as goal
@@ -8,6 +7,4 @@ use Rattle.lines.proofs.put_of.Goals as goal
 pub returns : goal.returns
 unfolding told octets_in
 returns c =
-    let second = c.before.before in
-    let first = second.before.before.before.before.before in
-    (wrote_next first.put_told-at.ensures.0 second.put_told.ensures.0, omega arith)
+    (wrote_next c.put_told-at.ensures.0 c.put_told.ensures.0, omega arith)

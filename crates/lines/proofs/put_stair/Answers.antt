@@ -1,5 +1,4 @@
 -- `lines::put_stair` meets its contract: the line's last part fills the front of what is left.
-use borrow.Author.Rules.{rules}
 use Rattle.meaning.specs.Findings.{octets_in, told, newline, stair_line}
 use Rattle.lines.proofs.Written.{wrote_last}
 use Rattle.lines.proofs.put_stair.Goals as goal
@@ -7,7 +6,5 @@ use Rattle.lines.proofs.put_stair.Goals as goal
 pub returns : goal.returns
 unfolding stair_line told newline octets_in
 returns c =
-    let second = c.before.before in
-    let first = second.before.before.before.before.before.before in
-    let a = first.args in
-    wrote_last (told " " a.x.total) newline first.put_told-at.ensures.0 second.put_last.ensures.0
+    let a = c.args in
+    wrote_last (told " " a.x.total) newline c.put_told-at.ensures.0 c.put_last.ensures.0

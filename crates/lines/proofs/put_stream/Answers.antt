@@ -1,5 +1,4 @@
 -- `lines::put_stream` meets its contract: each part of the line fills the front of what is left.
-use borrow.Author.Rules.{rules}
 use Rattle.meaning.specs.Findings.{octets_in, told, newline}
 use Rattle.lines.specs.Texts.{figure_line}
 use Rattle.lines.proofs.Written.{wrote_next}
@@ -8,7 +7,4 @@ use Rattle.lines.proofs.put_stream.Goals as goal
 pub returns : goal.returns
 unfolding figure_line told newline octets_in
 returns c =
-    let third = c.before.before in
-    let second = third.before.before.before.before.before in
-    let first = second.before.before.before.before in
-    wrote_next (wrote_next first.put_told-at.ensures.0 second.put_verdict-at.ensures) third.put_word.ensures
+    wrote_next (wrote_next c.put_told-at.ensures.0 c.put_verdict-at.ensures) c.put_word.ensures

@@ -1,10 +1,5 @@
 -- `rows::insert_slot` meets its contract: the loop opens a gap from the first free place down to the place of s.
-use mathlib.Core.Path.{◌≡◌}
-use native.Mathlib.Omega.{arith}
-use lib.ListN.{length}
-use borrow.Author.Rules.{rules}
-use Rattle.laws.proofs.Shifting.{Opened, open_start, open_next, open_end}
-use Rattle.rows.specs.Rows.{no_slot, slot_row}
+use Rattle.laws.proofs.Shifting.{Opened}
 use Rattle.rows.proofs.insert_slot.Given as goal
 
 abbrev pub invariant-loop-i : goal.invariant-loop-i

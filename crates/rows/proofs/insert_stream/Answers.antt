@@ -3,7 +3,7 @@ use mathlib.Core.Path.{◌≡◌}
 use native.Mathlib.Omega.{arith}
 use lib.ListN.{length}
 use borrow.Author.Rules.{rules}
-use Rattle.laws.proofs.Shifting.{Opened, open_start, open_next, open_end}
+use Rattle.laws.proofs.Shifting.{open_start, open_next, open_end}
 use Rattle.rows.specs.Rows.{no_stream, stream_row}
 use Rattle.rows.proofs.insert_stream.Goals as goal
 

@@ -1,10 +1,5 @@
 -- `rows::insert_stream` meets its contract: the loop opens a gap from the first free place down to the place of j.
-use mathlib.Core.Path.{◌≡◌}
-use native.Mathlib.Omega.{arith}
-use lib.ListN.{length}
-use borrow.Author.Rules.{rules}
-use Rattle.laws.proofs.Shifting.{Opened, open_start, open_next, open_end}
-use Rattle.rows.specs.Rows.{no_stream, stream_row}
+use Rattle.laws.proofs.Shifting.{Opened}
 use Rattle.rows.proofs.insert_stream.Given as goal
 
 abbrev pub invariant-loop-k : goal.invariant-loop-k

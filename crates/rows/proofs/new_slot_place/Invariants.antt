@@ -1,13 +1,7 @@
 -- `rows::new_slot_place` meets its contract: as long as the loop runs, none before place p starts later.
 use Prim.Native.Nat.{◌-◌}
-use mathlib.Core.Path.{◌≡◌}
-use native.Mathlib.Omega.{arith}
-use lib.ListN.{length, get_or}
 use lib.Dec.{ltb}
-use borrow.Author.Tests.{lt-ltb, le-ltb}
-use borrow.Author.Rules.{rules}
-use Rattle.laws.proofs.Shifting.{Searched, search_start, search_next, place_found, place_none}
-use Rattle.rows.specs.Rows.{no_slot}
+use Rattle.laws.proofs.Shifting.{Searched}
 use Rattle.rows.proofs.new_slot_place.Given as goal
 
 abbrev pub invariant-loop-p : goal.invariant-loop-p

@@ -1,10 +1,9 @@
 -- `rows::remove_slot` meets its contract: the loop closes the row over place p.
-use Prim.Native.Nat.{◌-◌}
 use mathlib.Core.Path.{◌≡◌}
 use native.Mathlib.Omega.{arith}
 use lib.ListN.{length}
 use borrow.Author.Rules.{rules}
-use Rattle.laws.proofs.Shifting.{Closed, close_start, close_next, close_end}
+use Rattle.laws.proofs.Shifting.{close_start, close_next, close_end}
 use Rattle.rows.specs.Rows.{no_slot, slot_row}
 use Rattle.rows.proofs.remove_slot.Goals as goal
 

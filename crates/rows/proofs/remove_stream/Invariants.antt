@@ -1,11 +1,6 @@
 -- `rows::remove_stream` meets its contract: the loop closes the row over place p.
 use Prim.Native.Nat.{◌-◌}
-use mathlib.Core.Path.{◌≡◌}
-use native.Mathlib.Omega.{arith}
-use lib.ListN.{length}
-use borrow.Author.Rules.{rules}
-use Rattle.laws.proofs.Shifting.{Closed, close_start, close_next, close_end}
-use Rattle.rows.specs.Rows.{no_stream, stream_row}
+use Rattle.laws.proofs.Shifting.{Closed}
 use Rattle.rows.proofs.remove_stream.Given as goal
 
 abbrev pub invariant-loop-k : goal.invariant-loop-k

@@ -4,7 +4,6 @@ use native.Mathlib.Omega.{arith}
 use Rattle.search.specs.Searches.{table_of}
 use Rattle.arrivals.proofs.Counting.{rows_few}
 use Rattle.search.proofs.Searching.{table_most, tried}
-use borrow.Author.Rules.{rules}
 use Rattle.search.proofs.attempt.Goals.{After-struct_known-1}
 use Rattle.search.proofs.attempt.Goals as goal
 

@@ -1,13 +1,11 @@
 -- `search::settle` meets its contract. The invariant: no number below w closes, and what is counted has come
 -- by w. The measure: how far w is from the horizon, which it never passes.
-use Prim.Native.Nat.{◌-◌, ◌≤◌}
+use Prim.Native.Nat.{◌≤◌}
 use native.Mathlib.Omega.{arith}
 use Rattle.laws.proofs.Leasts.{Under}
-use Rattle.arrivals.specs.Rows.{RowsCounted}
 use Rattle.search.specs.Searches.{table_of, row_demand}
 use Rattle.arrivals.proofs.Counting.{rows_on}
 use Rattle.search.proofs.Searching.{row_demand_mono, search_closes, search_goes_on, under_soon}
-use borrow.Author.Rules.{rules}
 use Rattle.search.proofs.settle.Goals.{After-struct_known-in-loop-w-1}
 use Rattle.search.proofs.settle.Goals as goal
 

@@ -1,18 +1,9 @@
 -- `search::window` meets its contract. The invariant: no number below w closes, and what is counted has come
 -- by w. The measure: how far w is from the horizon.
-use mathlib.Core.Path.{◌≡◌, ◌∙◌}
-use Prim.Native.Nat.{◌-◌, ◌≤◌, zero-le}
-use native.Mathlib.Nat.{le_trans}
-use native.Mathlib.Omega.{arith}
-use lib.Dec.{lit≤}
-use Rattle.laws.specs.Numbers.{Mono}
+use Prim.Native.Nat.{◌-◌, ◌≤◌}
 use Rattle.laws.proofs.Leasts.{Under}
 use Rattle.arrivals.specs.Rows.{RowsCounted}
 use Rattle.search.specs.Searches.{table_of, row_busy}
-use Rattle.arrivals.proofs.Counting.{rows_on}
-use Rattle.search.proofs.Searching.{row_busy_mono, tried_busy, search_goes_on, window_closes, window_none}
-use Rattle.search.proofs.Searching.{window_over}
-use borrow.Author.Rules.{rules}
 use Rattle.search.proofs.window.Given as goal
 
 abbrev pub invariant-loop-w : goal.invariant-loop-w

@@ -3,7 +3,6 @@ use mathlib.Core.Path.{sym}
 use native.Mathlib.Nat.{mod-eq_of_lt}
 use native.Mathlib.Omega.{arith}
 use Rattle.laws.proofs.Circle.{mod_once}
-use borrow.Author.Rules.{rules}
 use Rattle.stairs.proofs.behind.Goals as goal
 
 pub returns-then-i-j : goal.returns-then-i-j

@@ -1,7 +1,6 @@
 -- `stairs::build` meets its contract: the runs are copied into rows, and the rows merged.
 use mathlib.Core.Path.{◌≡◌, refl, ap, ◌∙◌}
 use mathlib.Core.List.{List}
-use Prim.Native.Nat.{◌-◌, ◌≤◌}
 use native.Mathlib.Omega.{arith}
 use lib.ListN.{length, take}
 use borrow.Author.Rules.{rules}
@@ -10,7 +9,7 @@ use Rattle.meaning.specs.Interference.{pairs, stairs_of}
 use Rattle.meaning.proofs.PairLoop.{no_run}
 use Rattle.table.specs.Rows.{table_of}
 use Rattle.stairs.specs.Rows.{runs_in}
-use Rattle.stairs.proofs.Rows.{Copied, copied_none, copied_next, runs_in_copied}
+use Rattle.stairs.proofs.Rows.{copied_none, copied_next, runs_in_copied}
 use Rattle.stairs.proofs.build.Goals.{After-loop-i}
 use Rattle.stairs.proofs.build.Goals as goal
 

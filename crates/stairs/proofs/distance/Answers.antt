@@ -2,7 +2,6 @@
 use mathlib.Core.Path.{sym}
 use native.Mathlib.Omega.{arith}
 use Rattle.laws.proofs.Circle.{dist_up, dist_down}
-use borrow.Author.Rules.{rules}
 use Rattle.stairs.proofs.distance.Goals as goal
 
 pub returns-then-s-e : goal.returns-then-s-e

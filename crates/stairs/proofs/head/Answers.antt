@@ -1,6 +1,5 @@
 -- `stairs::head` meets its contract: the key of the next pair of a row, or of none.
 use native.Mathlib.Omega.{arith}
-use borrow.Author.Rules.{rules}
 use Rattle.stairs.specs.Heads.{done}
 use Rattle.stairs.proofs.Keys.{start_below, head_at_most, head_key_lem, head_done}
 use Rattle.stairs.proofs.head.Goals as goal

@@ -1,15 +1,13 @@
 -- `stairs::heads` meets its contract: each row's first pair goes to its leaf.
 use mathlib.Core.Path.{◌≡◌, refl}
-use Prim.Native.Nat.{◌-◌, ◌≤◌, ◌<◌}
+use Prim.Native.Nat.{◌<◌}
 use native.Mathlib.Omega.{arith}
 use borrow.Author.Rules.{rules}
 use Rattle.laws.specs.Lists.{total}
 use Rattle.meaning.specs.Interference.{all_len}
-use Rattle.stairs.specs.Rows.{runs_in}
 use Rattle.stairs.specs.Heads.{done}
-use Rattle.stairs.specs.Tree.{Standing}
 use Rattle.stairs.proofs.Keys.{run_count}
-use Rattle.stairs.proofs.HeadRow.{entered, entered_next}
+use Rattle.stairs.proofs.HeadRow.{entered_next}
 use Rattle.stairs.proofs.Tree.{standing_none, standing_put, standing_all}
 use Rattle.stairs.proofs.heads.Goals as goal
 

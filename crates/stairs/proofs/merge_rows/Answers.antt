@@ -1,18 +1,14 @@
 -- `stairs::merge_rows` meets its contract: the pairs come by rising key, and those over the last total are stairs.
-use mathlib.Core.Path.{◌≡◌, refl}
-use mathlib.Core.Logic.{⊎_elim}
+use mathlib.Core.Path.{refl}
 use mathlib.Core.List.{List}
 use Prim.Native.Nat.{◌/◌, ◌%◌, ◌<◌}
 use native.Mathlib.Omega.{arith}
-use lib.ListN.{get_or}
-use borrow.Author.Rules.{rules}
 use Rattle.meaning.specs.declared.Run.{Run}
 use Rattle.stairs.specs.Rows.{runs_in}
 use Rattle.stairs.specs.Heads.{done}
-use Rattle.stairs.specs.Tree.{Standing}
 use Rattle.stairs.proofs.Keys.{run_count}
 use Rattle.stairs.proofs.Tree.{standing_put}
-use Rattle.stairs.proofs.Turns.{SoFar, Chosen, left, moved_on, left_falls, so_far_start, first_chosen, so_far_room}
+use Rattle.stairs.proofs.Turns.{SoFar, Chosen, moved_on, left_falls, so_far_start, first_chosen, so_far_room}
 use Rattle.stairs.proofs.Turns.{so_far_stair, so_far_covered, so_far_end, moving_on}
 use Rattle.stairs.proofs.merge_rows.Goals.{After-total_of-t, Joined-top-t, Start, Then-top-t}
 use Rattle.stairs.proofs.merge_rows.Goals.{then-top-t, else-top-t}
@@ -60,13 +56,13 @@ so_far c =
     let f = h.requires.runs_fit in
     let long = h.loop-low.invariant.0.heads.rows in
     elim c.if-top-t.branch [
-      then-top-t w ↦
-        rw (w.far-is, w.tot-is, w.made-is, w.top-is)
-        (so_far_stair f h.loop-low.invariant.1 (chose a) long _ a.total_of-t.ensures w.if-top-t.true _
-        w.far_of.ensures)
-    | else-top-t w ↦
-        rw (w.far-is, w.tot-is, w.made-is, w.top-is)
-        (so_far_covered f h.loop-low.invariant.1 (chose a) long _ a.total_of-t.ensures w.if-top-t.false)
+      | then-top-t w ↦
+          rw (w.far-is, w.tot-is, w.made-is, w.top-is)
+          (so_far_stair f h.loop-low.invariant.1 (chose a) long _ a.total_of-t.ensures w.if-top-t.true _
+          w.far_of.ensures)
+      | else-top-t w ↦
+          rw (w.far-is, w.tot-is, w.made-is, w.top-is)
+          (so_far_covered f h.loop-low.invariant.1 (chose a) long _ a.total_of-t.ensures w.if-top-t.false)
     ]
 
 pub loop-low-init : goal.loop-low-init

@@ -1,13 +1,10 @@
 -- `stairs::put` meets its contract. The invariant: node k is low, and all nodes are right but the one above k.
 -- The measure: k.
 use mathlib.Core.Path.{◌≡◌, sym, ap, ◌∙◌}
-use mathlib.Core.List.{List}
-use Prim.Native.Nat.{ℕ, ◌+◌, ◌/◌, ◌≤◌, ◌<◌}
+use Prim.Native.Nat.{ℕ, ◌+◌, ◌/◌}
 use native.Mathlib.Omega.{arith}
-use lib.ListN.{length, get_or, length-set}
+use lib.ListN.{get_or, length-set}
 use lib.Seq.{get_or-set_same}
-use borrow.Author.Rules.{rules}
-use Rattle.stairs.specs.Tree.{Nodes}
 use Rattle.stairs.proofs.Tree.{put_leaf, mend_node}
 use Rattle.stairs.proofs.put.Goals as goal
 

@@ -1,6 +1,5 @@
 -- `table::all_blocked` meets its contract.
 use native.Mathlib.Omega.{arith}
-use borrow.Author.Rules.{rules}
 use Rattle.table.proofs.Stored.{all_none, all_some}
 use Rattle.table.proofs.all_blocked.Goals as goal
 

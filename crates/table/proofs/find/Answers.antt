@@ -1,8 +1,7 @@
 -- `table::find` meets its contract. The invariant: it has narrowed to lo and hi. The measure: what lies between.
-use Prim.Native.Nat.{◌+◌, ◌-◌, ◌/◌}
+use Prim.Native.Nat.{◌+◌, ◌/◌}
 use native.Mathlib.Omega.{arith}
-use borrow.Author.Rules.{rules}
-use Rattle.table.proofs.Halving.{Narrowed, search_starts, search_up, search_down, search_ends}
+use Rattle.table.proofs.Halving.{search_starts, search_up, search_down, search_ends}
 use Rattle.table.proofs.find.Goals as goal
 
 pub loop-lo-init : goal.loop-lo-init

@@ -1,8 +1,6 @@
 -- `table::find` meets its contract. The invariant: it has narrowed to lo and hi. The measure: what lies between.
-use Prim.Native.Nat.{◌+◌, ◌-◌, ◌/◌}
-use native.Mathlib.Omega.{arith}
-use borrow.Author.Rules.{rules}
-use Rattle.table.proofs.Halving.{Narrowed, search_starts, search_up, search_down, search_ends}
+use Prim.Native.Nat.{◌-◌}
+use Rattle.table.proofs.Halving.{Narrowed}
 use Rattle.table.proofs.find.Given as goal
 
 abbrev pub invariant-loop-lo : goal.invariant-loop-lo

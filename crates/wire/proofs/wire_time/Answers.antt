@@ -1,6 +1,5 @@
 -- `wire::wire_time` meets its contract: nothing overflows, and the division rounds up.
 use Prim.Native.Nat.{◌+◌, ◌*◌, ◌≤◌}
-use mathlib.Core.Path.{sym, ◌∙◌}
 use native.Mathlib.Omega.{arith}
 use Rattle.wire.proofs.Rates.{product_fits, wire_is, unknown_time}
 use borrow.Author.Rules.{rules}

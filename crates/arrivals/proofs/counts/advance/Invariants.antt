@@ -1,11 +1,7 @@
 -- `arrivals::counts::advance` meets its contract. The invariant: what is counted has come by x. The measure: how far
 -- the least next instant is from being past x.
 use Prim.Native.Nat.{◌+◌, ◌-◌}
-use native.Mathlib.Omega.{arith}
-use Rattle.arrivals.specs.declared.counts.Counts.{Counts}
 use Rattle.arrivals.specs.Rows.{RowsCounted}
-use Rattle.arrivals.proofs.Counting.{rows_few, rows_pass, pass_rises}
-use borrow.Author.Rules.{rules}
 use Rattle.arrivals.proofs.counts.advance.Given as goal
 
 abbrev pub invariant-loop-least : goal.invariant-loop-least

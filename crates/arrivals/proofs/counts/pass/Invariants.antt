@@ -1,10 +1,6 @@
 -- `arrivals::counts::pass` meets its contract. The invariant: the first i streams are done. The measure: those left.
-use mathlib.Core.Path.{◌≡◌}
 use Prim.Native.Nat.{◌-◌, ◌≤◌}
-use native.Mathlib.Omega.{arith}
 use Rattle.arrivals.specs.Rows.{Passed}
-use Rattle.arrivals.proofs.Counting.{pass_starts, pass_more}
-use borrow.Author.Rules.{rules}
 use Rattle.arrivals.proofs.counts.pass.Given as goal
 
 abbrev pub invariant-loop-i : goal.invariant-loop-i

@@ -1,10 +1,9 @@
 -- `lines::texts::places` meets its contract: a digit for each division by ten.
-use mathlib.Core.Path.{◌≡◌, ap}
-use Prim.Native.Nat.{◌+◌, ◌≤◌, ◌<◌}
+use mathlib.Core.Path.{ap}
+use Prim.Native.Nat.{◌<◌}
 use native.Mathlib.Omega.{arith}
 use lib.ListN.{length}
 use borrow.Author.Rules.{rules}
-use Rattle.meaning.specs.Findings.{decimal}
 use Rattle.meaning.proofs.Decimals.{decimal_small, decimal_one_more, decimal_some}
 use Rattle.lines.proofs.Digits.{at_most_20}
 use Rattle.lines.proofs.texts.places.Goals as goal

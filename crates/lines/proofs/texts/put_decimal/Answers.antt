@@ -4,10 +4,9 @@ use mathlib.Core.List.{◌++◌}
 use Prim.Native.Nat.{ℕ, ◌/◌}
 use native.Mathlib.Omega.{arith}
 use lib.ListN.{drop}
-use borrow.Author.Rules.{rules}
 use Rattle.meaning.specs.Findings.{decimal}
 use Rattle.meaning.proofs.Decimals.{decimal_some, decimal_one_more}
-use Rattle.lines.proofs.Digits.{Behind, behind_start, behind_turn, behind_end}
+use Rattle.lines.proofs.Digits.{behind_start, behind_turn, behind_end}
 use Rattle.lines.proofs.texts.put_decimal.Goals as goal
 
 pub overflow_sub-i : goal.overflow_sub-i
@@ -26,20 +25,18 @@ overflow_sub-i-in-loop-rest c =
 
 pub loop-rest-preserved : goal.loop-rest-preserved
 loop-rest-preserved c =
-    let h = c.before in
-    let a = h.args in
-    behind_turn a.out.now a.n h.loop-rest.out h.loop-rest.i h.loop-rest.rest h.requires
-    h.loop-rest.invariant c.loop-rest-test.true
+    let a = c.args in
+    behind_turn a.out.now a.n c.loop-rest.out c.loop-rest.i c.loop-rest.rest c.requires
+    c.loop-rest.invariant c.loop-rest-test.true
 
 pub returns : goal.returns
 returns c =
-    let h = c.before in
-    let a = h.args in
-    let k = h.places-k.ensures in
+    let a = c.args in
+    let k = c.places-k.ensures in
     record {
       count = k;
       room =
-          behind_end a.out.now a.n h.loop-rest.out h.loop-rest.i h.loop-rest.rest h.requires
-          h.loop-rest.invariant (omega arith)
+          behind_end a.out.now a.n c.loop-rest.out c.loop-rest.i c.loop-rest.rest c.requires
+          c.loop-rest.invariant (omega arith)
           ∙ ap (λ (m : ℕ). decimal a.n ++ drop m a.out.now) (sym k);
     }

@@ -1,13 +1,12 @@
 -- `search::hasten::hasten` meets its contract. The invariant: no number below w closes. The measure: how far w is
 -- from the horizon.
-use Prim.Native.Nat.{◌+◌, ◌-◌, ◌≤◌}
+use Prim.Native.Nat.{◌+◌}
 use native.Mathlib.Nat.{le_trans}
 use native.Mathlib.Omega.{arith}
 use lib.Dec.{lit≤}
 use Rattle.laws.proofs.Leasts.{Under, under_zero, under_step}
 use Rattle.search.specs.Searches.{table_of, row_busy}
 use Rattle.search.proofs.Searching.{table_most, row_busy_mono, tried_under, under_below}
-use borrow.Author.Rules.{rules}
 use Rattle.search.proofs.hasten.hasten.Goals.{After-interference-v}
 use Rattle.search.proofs.hasten.hasten.Goals as goal
 

@@ -1,12 +1,9 @@
 -- `search::hasten::inverses` meets its contract. The invariant: the first i periods have their inverses. The measure:
 -- those left.
-use mathlib.Core.Path.{◌≡◌, refl}
-use Prim.Native.Nat.{◌-◌, ◌*◌, ◌≤◌}
-use native.Mathlib.Omega.{arith}
-use lib.ListN.{length, get_or, length-set}
-use borrow.Author.Rules.{rules}
+use mathlib.Core.Path.{◌≡◌}
+use Prim.Native.Nat.{◌-◌, ◌≤◌}
+use lib.ListN.{length}
 use Rattle.arrivals.specs.Rows.{Inverses}
-use Rattle.arrivals.proofs.Places.{set_below}
 use Rattle.search.proofs.hasten.inverses.Given as goal
 
 abbrev pub invariant-loop-i : goal.invariant-loop-i

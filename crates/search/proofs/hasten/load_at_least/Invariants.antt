@@ -1,16 +1,8 @@
 -- `search::hasten::load_at_least` meets its contract. The invariant: it is no more than the load of the first i
 -- streams, whichever periods have these inverses. The measure: the streams left.
-use mathlib.Core.Path.{◌≡◌}
 use mathlib.Core.List.{List}
-use Prim.Native.Nat.{ℕ, ◌-◌, ◌*◌, ◌≤◌, zero-le}
-use native.Mathlib.Nat.{le_trans}
-use native.Mathlib.Omega.{arith}
-use lib.ListN.{get_or}
-use lib.Dec.{lit≤}
-use borrow.Author.Rules.{rules}
+use Prim.Native.Nat.{ℕ, ◌-◌, ◌*◌, ◌≤◌}
 use Rattle.arrivals.specs.Rows.{row_load, RowIn, Inverses}
-use Rattle.arrivals.proofs.Places.{one_more}
-use Rattle.arrivals.proofs.Counting.{row_load_under}
 use Rattle.search.proofs.hasten.load_at_least.Given as goal
 
 abbrev pub invariant-loop-i : goal.invariant-loop-i
