@@ -22,7 +22,7 @@ fn run(program: &Path, plan: &[u8]) -> String {
 
 /// Processor time of the processes, their start and end included.
 pub fn findings(plan: &[u8]) -> Times {
-    let core = program("target/bin/findings", "rt check findings");
+    let core = program("crates/findings/out/findings", "(cd crates/findings && rt run </dev/null)");
     let model = "cargo build --offline --profile bench --bin findings-reference";
     let model = program("rust/target/release/findings-reference", model);
     compare(clock::children, &mut || run(&core, plan), &mut || run(&model, plan))
