@@ -20,7 +20,7 @@ use Rattle.meaning.specs.Ranges.{octet_limit}
 use Rattle.meaning.specs.Interference.{interference}
 use Rattle.meaning.specs.Response.{others, lower_wire, bound}
 use Rattle.meaning.specs.Refusals.{Answer, accepted, refused}
-use Rattle.meaning.specs.Desks.{opened, asked}
+use Rattle.meaning.specs.Desks.{asked}
 use Rattle.meaning.specs.Calls.{bound_of, verdict, respond, ask_response}
 use Rattle.meaning.proofs.InRange.{octet_limit_most, port_in_lem, stream_in}
 use Rattle.meaning.proofs.Gates.{slots_grow, slots_spread}

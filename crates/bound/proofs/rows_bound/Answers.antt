@@ -4,11 +4,9 @@ use mathlib.Core.Path.{◌≡◌, refl, ap₂}
 use Prim.Native.Nat.{ℕ, ◌+◌, ◌-◌}
 use native.Mathlib.Omega.{arith}
 use lib.ListN.{replicate}
-use Rattle.meaning.specs.Arrivals.{most_in}
-use Rattle.search.specs.Searches.{table_of, TableBounds, own_stream}
+use Rattle.search.specs.Searches.{table_of, TableBounds}
 use Rattle.arrivals.proofs.Arriving.{frames_grow}
 use Rattle.bound.proofs.Bounding.{zeros_in, calm_fits, endless_first, endless_window, beside_in, bound_within}
-use borrow.Author.Rules.{rules}
 use Rattle.bound.proofs.rows_bound.Goals.{After-frames_in, Else-interference-gt-HORIZON}
 use Rattle.bound.proofs.rows_bound.Goals as goal
 

@@ -1,5 +1,4 @@
 -- `questions::interference` meets its contract: the stairs of a fit open desk give V, up to the horizon.
-use borrow.Author.Rules.{rules}
 use Rattle.meaning.specs.Ranges.{horizon}
 use Rattle.questions.proofs.Asking.{figure_closed, figure_over, figure_open}
 use Rattle.questions.proofs.interference.Goals as goal

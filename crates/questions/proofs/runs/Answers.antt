@@ -1,6 +1,5 @@
 -- `questions::runs` meets its contract: the gate numbers and slots of a fit open desk may be handed to `find_runs`.
 use mathlib.Core.Path.{ap, ◌∙◌}
-use borrow.Author.Rules.{rules}
 use Rattle.meaning.specs.declared.Gate.{Gate}
 use Rattle.meaning.specs.Runs.{runs}
 use Rattle.gate.specs.Rows.{run_row}

@@ -1,5 +1,4 @@
 -- `ranges::narrow_slot` meets its contract: each number stays the same.
-use borrow.Author.Rules.{rules}
 use Rattle.ranges.specs.Numbers.{slot_of}
 use Rattle.ranges.proofs.narrow_slot.Goals as goal
 

@@ -1,7 +1,6 @@
 -- `ranges::stream_in_range` meets its contract: its tests are those of `streamRanges`.
 use mathlib.Core.Path.{◌∙◌}
 use mathlib.Core.Bool.{◌&&◌}
-use borrow.Author.Rules.{rules}
 use Rattle.meaning.specs.Ranges.{stream_ranges}
 use Rattle.ranges.proofs.RangeLaws.{all_hold}
 use Rattle.ranges.proofs.stream_in_range.Goals as goal

@@ -1,6 +1,5 @@
 -- `reader::edit` meets its contract: each case is the edit of the field told.
 use mathlib.Core.Path.{◌≡◌, refl, sym, ap, subst, ◌∙◌}
-use borrow.Author.Rules.{rules}
 use Rattle.meaning.specs.declared.Port.{Port}
 use Rattle.meaning.specs.declared.Stream.{Stream}
 use Rattle.meaning.specs.Refusals.{Answer}

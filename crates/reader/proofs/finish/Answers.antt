@@ -1,7 +1,6 @@
 -- `reader::finish` meets its contract: where a port is open the plan is read, with the stairs of its slots.
 use mathlib.Core.Path.{sym, ap, ◌∙◌}
 use mathlib.Core.List.{[]}
-use borrow.Author.Rules.{rules}
 use borrow.Author.Tests.{not-true, not-false}
 use Rattle.meaning.specs.Desks.{Desk as Plan}
 use Rattle.meaning.specs.Bytes.{going, ended, desk_read}

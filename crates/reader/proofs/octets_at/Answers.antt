@@ -1,6 +1,5 @@
 -- `reader::octets_at` meets its contract.
 use mathlib.Core.Path.{sym, ap}
-use borrow.Author.Rules.{rules}
 use Rattle.reader.specs.Reading.{octets_at}
 use Rattle.reader.proofs.octets_at.Goals as goal
 

@@ -1,6 +1,5 @@
 -- `reader::refused_at` meets its contract: a refused plan gives the bare desk.
 use mathlib.Core.Path.{ap}
-use borrow.Author.Rules.{rules}
 use Rattle.meaning.specs.Bytes.{desk_read}
 use Rattle.desk.specs.declared.Desk.{Desk}
 use Rattle.reader.specs.declared.ReadReply.{ReadReply}

@@ -1,7 +1,6 @@
 -- `room::put1` meets its contract: one store.
 use mathlib.Core.Path.{refl}
 use native.Mathlib.Omega.{arith}
-use borrow.Author.Rules.{rules}
 use Rattle.meaning.specs.Bytes.{octets_of}
 use Rattle.room.proofs.Rooms.{put_octet}
 use Rattle.room.proofs.put1.Goals as goal

@@ -2,7 +2,6 @@
 use mathlib.Core.Path.{refl}
 use Prim.Native.Nat.{◌/◌}
 use native.Mathlib.Omega.{arith}
-use borrow.Author.Rules.{rules}
 use Rattle.meaning.specs.Bytes.{octets_of}
 use Rattle.room.proofs.Rooms.{put_octet}
 use Rattle.room.proofs.put2.Goals as goal

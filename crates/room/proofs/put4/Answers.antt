@@ -3,7 +3,6 @@ use mathlib.Core.Path.{refl}
 use Prim.Native.Nat.{◌/◌}
 use native.Mathlib.Omega.{arith}
 use lib.ListN.{length-set}
-use borrow.Author.Rules.{rules}
 use Rattle.meaning.specs.Bytes.{octets_of}
 use Rattle.room.proofs.Rooms.{put_octet}
 use Rattle.room.proofs.put4.Goals as goal

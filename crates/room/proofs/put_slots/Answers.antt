@@ -1,11 +1,10 @@
 -- `room::put_slots` meets its contract: each field fills the front of what those before it leave.
 use mathlib.Core.Path.{◌≡◌, refl}
-use Prim.Native.Nat.{◌-◌}
 use native.Mathlib.Omega.{arith}
 use lib.ListN.{length}
 use borrow.Author.Rules.{rules}
 use Rattle.meaning.specs.Bytes.{slot_field, tag_of, value_length, field_length}
-use Rattle.room.proofs.Rooms.{Filled, fill_start, fill_turn, fill_end}
+use Rattle.room.proofs.Rooms.{fill_start, fill_turn, fill_end}
 use Rattle.room.proofs.put_slots.Goals as goal
 
 pub loop-i-init : goal.loop-i-init

@@ -1,7 +1,6 @@
 -- `room::put_stream` meets its contract: each part of the field fills the front of what is left.
 use mathlib.Core.Path.{refl}
 use mathlib.Core.List.{◌++◌}
-use borrow.Author.Rules.{rules}
 use Rattle.meaning.specs.Bytes.{octets_of, field_octets, value_of, tag_of, value_length}
 use Rattle.room.proofs.Rooms.{fill_next}
 use Rattle.room.proofs.put_stream.Goals as goal

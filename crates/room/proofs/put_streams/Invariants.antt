@@ -1,13 +1,7 @@
 -- `room::put_streams` meets its contract: each field fills the front of what those before it leave.
-use mathlib.Core.Path.{◌≡◌, refl}
 use Prim.Native.Nat.{◌-◌}
-use native.Mathlib.Omega.{arith}
-use lib.ListN.{length}
-use borrow.Author.Rules.{rules}
-use Rattle.laws.proofs.Without.{mem_get_take}
-use Rattle.meaning.specs.declared.Stream.{Stream}
-use Rattle.meaning.specs.Bytes.{stream_field, tag_of, value_length, field_length}
-use Rattle.room.proofs.Rooms.{Filled, fill_start, fill_turn, fill_end}
+use Rattle.meaning.specs.Bytes.{stream_field}
+use Rattle.room.proofs.Rooms.{Filled}
 use Rattle.room.proofs.put_streams.Given as goal
 
 abbrev pub invariant-loop-k : goal.invariant-loop-k

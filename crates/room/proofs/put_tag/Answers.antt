@@ -1,5 +1,4 @@
 -- `room::put_tag` meets its contract: the length fills the front of what the tag leaves.
-use borrow.Author.Rules.{rules}
 use Rattle.meaning.specs.Bytes.{octets_of}
 use Rattle.meaning.proofs.Octets.{octets_length}
 use Rattle.room.proofs.Rooms.{fill_next}

@@ -1,7 +1,6 @@
 -- `room::put_times` meets its contract: each time fills the front of what is left.
 use mathlib.Core.Path.{refl}
 use mathlib.Core.List.{◌++◌}
-use borrow.Author.Rules.{rules}
 use Rattle.meaning.specs.Bytes.{octets_of}
 use Rattle.room.proofs.Rooms.{fill_next}
 use Rattle.room.proofs.put_times.Goals as goal

@@ -1,6 +1,5 @@
 -- `speed::speed_bound` meets its contract.
-use mathlib.Core.Path.{sym, ap, ◌∙◌}
-use borrow.Author.Rules.{rules}
+use mathlib.Core.Path.{ap}
 use Rattle.speed.specs.Told.{number_of}
 use Rattle.speed.proofs.speed_bound.Goals as goal
 

@@ -1,6 +1,5 @@
 -- `desk::parts::build_stairs` meets its contract: what was made gets its stairs, or the desk is unchanged.
 use mathlib.Core.Path.{sym, ap, ◌∙◌}
-use borrow.Author.Rules.{rules}
 use Rattle.desk.specs.Edits.{accepting, answered}
 use Rattle.desk.proofs.parts.build_stairs.Goals as goal
 

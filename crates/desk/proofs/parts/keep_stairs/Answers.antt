@@ -1,6 +1,5 @@
 -- `desk::parts::keep_stairs` meets its contract: the stairs stay, or the desk is unchanged.
 use mathlib.Core.Path.{sym, ap, ◌∙◌}
-use borrow.Author.Rules.{rules}
 use Rattle.desk.specs.Edits.{accepting, answered}
 use Rattle.desk.proofs.parts.keep_stairs.Goals as goal
 

@@ -1,6 +1,5 @@
 -- `desk::parts::with_stairs` meets its contract: the runs of the slots held, and the stairs of these runs.
 use mathlib.Core.Path.{sym, subst}
-use borrow.Author.Rules.{rules}
 use Rattle.entries.specs.Entries.{held_in}
 use Rattle.entries.proofs.Opened.{Open, open_entries}
 use Rattle.desk.specs.Desks.{Fit}

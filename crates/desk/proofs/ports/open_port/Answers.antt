@@ -1,5 +1,4 @@
 -- `desk::ports::open_port` meets its contract: a bare desk has the stairs of no slots already.
-use borrow.Author.Rules.{rules}
 use Rattle.meaning.specs.Refusals.{Answer}
 use Rattle.meaning.specs.Desks.{Desk as Plan}
 use Rattle.meaning.specs.Calls.{open_port}

@@ -1,5 +1,4 @@
 -- `desk::slots::add_slot` meets its contract: the stairs are built behind the slot added.
-use borrow.Author.Rules.{rules}
 use Rattle.meaning.specs.Refusals.{Answer}
 use Rattle.meaning.specs.Desks.{Desk as Plan}
 use Rattle.meaning.specs.Calls.{add_slot}

@@ -1,5 +1,4 @@
 -- `desk::slots::remove_slot` meets its contract: the stairs are built behind the slot removed.
-use borrow.Author.Rules.{rules}
 use Rattle.meaning.specs.Refusals.{Answer}
 use Rattle.meaning.specs.Desks.{Desk as Plan}
 use Rattle.meaning.specs.Calls.{remove_slot}

@@ -1,5 +1,4 @@
 -- `desk::streams::add_stream` meets its contract: a stream more leaves the stairs as they are.
-use borrow.Author.Rules.{rules}
 use Rattle.meaning.specs.Refusals.{Answer}
 use Rattle.meaning.specs.Desks.{Desk as Plan}
 use Rattle.meaning.specs.Calls.{add_stream}

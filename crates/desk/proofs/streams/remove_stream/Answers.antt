@@ -1,5 +1,4 @@
 -- `desk::streams::remove_stream` meets its contract: a stream less leaves the stairs as they are.
-use borrow.Author.Rules.{rules}
 use Rattle.meaning.specs.Refusals.{Answer}
 use Rattle.meaning.specs.Desks.{Desk as Plan}
 use Rattle.meaning.specs.Calls.{remove_stream}

@@ -1,6 +1,5 @@
 -- `entries::slots::drop_slot` meets its contract: each answer is the meaning's, by the tests that led to it.
 use mathlib.Core.Path.{ap, ◌∙◌}
-use borrow.Author.Rules.{rules}
 use borrow.Author.Tests.{not-true, not-false}
 use Rattle.meaning.proofs.Sounds.{remove_slot_sound}
 use Rattle.entries.specs.declared.Entries.{Entries}

@@ -1,7 +1,6 @@
 -- `entries::slots::hold_slot` meets its contract: an open port, numbers in range, and then what `place_slot` answers.
 use mathlib.Core.Path.{◌≡◌, sym, subst, ◌∙◌}
 use mathlib.Core.Bool.{true}
-use borrow.Author.Rules.{rules}
 use borrow.Author.Tests.{not-true, not-false}
 use Rattle.meaning.specs.declared.Slot.{Slot}
 use Rattle.meaning.specs.Ranges.{slot_ranges, in_range}

@@ -1,6 +1,5 @@
 -- `entries::streams::place_stream` meets its contract: each answer is the meaning's, by the tests that led to it.
 use mathlib.Core.Path.{ap, ◌∙◌}
-use borrow.Author.Rules.{rules}
 use Rattle.meaning.specs.declared.Stream.{Stream}
 use Rattle.meaning.proofs.Sounds.{add_stream_sound}
 use Rattle.entries.specs.declared.Entries.{Entries}

@@ -1,5 +1,4 @@
 -- `face::asking::desk_interference` meets its contract.
-use borrow.Author.Rules.{rules}
 use Rattle.face.proofs.Given.{figure_told}
 use Rattle.face.proofs.asking.desk_interference.Goals as goal
 

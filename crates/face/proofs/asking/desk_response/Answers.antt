@@ -1,5 +1,4 @@
 -- `face::asking::desk_response` meets its contract.
-use borrow.Author.Rules.{rules}
 use Rattle.face.proofs.Given.{figure_told}
 use Rattle.face.proofs.asking.desk_response.Goals as goal
 

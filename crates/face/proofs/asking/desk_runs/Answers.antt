@@ -1,5 +1,4 @@
 -- `face::asking::desk_runs` meets its contract.
-use borrow.Author.Rules.{rules}
 use Rattle.face.proofs.Given.{runs_told}
 use Rattle.face.proofs.asking.desk_runs.Goals as goal
 

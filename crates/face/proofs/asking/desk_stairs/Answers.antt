@@ -1,5 +1,4 @@
 -- `face::asking::desk_stairs` meets its contract.
-use borrow.Author.Rules.{rules}
 use Rattle.face.proofs.Given.{stairs_told}
 use Rattle.face.proofs.asking.desk_stairs.Goals as goal
 

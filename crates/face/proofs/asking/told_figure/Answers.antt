@@ -1,5 +1,4 @@
 -- `face::asking::told_figure` meets its contract.
-use borrow.Author.Rules.{rules}
 use Rattle.face.proofs.asking.told_figure.Goals as goal
 
 pub returns : goal.returns

@@ -1,5 +1,4 @@
 -- `face::asking::told_runs` meets its contract.
-use borrow.Author.Rules.{rules}
 use Rattle.face.proofs.asking.told_runs.Goals as goal
 
 pub returns : goal.returns

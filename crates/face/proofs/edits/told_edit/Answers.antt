@@ -1,6 +1,5 @@
 -- `face::edits::told_edit` meets its contract.
 use mathlib.Core.Path.{sym, ap, ◌∙◌}
-use borrow.Author.Rules.{rules}
 use Rattle.answers.specs.Answers.{verdict_number}
 use Rattle.face.proofs.edits.told_edit.Goals as goal
 

@@ -1,6 +1,5 @@
 -- `face::numbers::bound_of` meets its contract: no refusal but late carries a value.
 use mathlib.Core.Path.{sym, ap}
-use borrow.Author.Rules.{rules}
 use Rattle.meaning.specs.Refusals.{values_of}
 use Rattle.face.specs.Told.{the_one}
 use Rattle.answers.proofs.Carried.{none_but_late}

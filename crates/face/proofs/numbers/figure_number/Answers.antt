@@ -1,6 +1,5 @@
 -- `face::numbers::figure_number` meets its contract.
 use mathlib.Core.Path.{sym, ap, ◌∙◌}
-use borrow.Author.Rules.{rules}
 use Rattle.answers.specs.Answers.{figure_number}
 use Rattle.face.proofs.numbers.figure_number.Goals as goal
 

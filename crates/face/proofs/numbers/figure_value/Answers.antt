@@ -1,6 +1,5 @@
 -- `face::numbers::figure_value` meets its contract.
 use mathlib.Core.Path.{sym, ap, ◌∙◌}
-use borrow.Author.Rules.{rules}
 use Rattle.answers.specs.Answers.{figure_values}
 use Rattle.face.specs.Told.{the_one}
 use Rattle.face.proofs.numbers.figure_value.Goals as goal

@@ -1,6 +1,5 @@
 -- `face::numbers::read_number` meets its contract.
 use mathlib.Core.Path.{sym, ap, ◌∙◌}
-use borrow.Author.Rules.{rules}
 use Rattle.reader.specs.Reading.{read_number}
 use Rattle.face.proofs.numbers.read_number.Goals as goal
 

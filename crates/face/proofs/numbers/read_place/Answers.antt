@@ -1,6 +1,5 @@
 -- `face::numbers::read_place` meets its contract.
 use mathlib.Core.Path.{sym, ap}
-use borrow.Author.Rules.{rules}
 use Rattle.reader.specs.Reading.{read_places}
 use Rattle.face.specs.Told.{the_one}
 use Rattle.face.proofs.numbers.read_place.Goals as goal

@@ -1,6 +1,5 @@
 -- `face::numbers::verdict_number` meets its contract.
 use mathlib.Core.Path.{sym, ap, ◌∙◌}
-use borrow.Author.Rules.{rules}
 use Rattle.answers.specs.Answers.{verdict_number}
 use Rattle.face.proofs.numbers.verdict_number.Goals as goal
 

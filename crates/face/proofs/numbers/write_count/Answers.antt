@@ -1,6 +1,5 @@
 -- `face::numbers::write_count` meets its contract.
 use mathlib.Core.Path.{sym, ap}
-use borrow.Author.Rules.{rules}
 use Rattle.writer.specs.Writing.{write_counts}
 use Rattle.face.specs.Told.{the_one}
 use Rattle.face.proofs.numbers.write_count.Goals as goal

@@ -1,6 +1,5 @@
 -- `face::numbers::write_number` meets its contract.
 use mathlib.Core.Path.{sym, ap, ◌∙◌}
-use borrow.Author.Rules.{rules}
 use Rattle.writer.specs.Writing.{write_number}
 use Rattle.face.proofs.numbers.write_number.Goals as goal
 

@@ -1,6 +1,5 @@
 -- `face::plans::desk_read` meets its contract.
 use mathlib.Core.Path.{ap, ◌∙◌}
-use borrow.Author.Rules.{rules}
 use Rattle.face.specs.Told.{numbered_read}
 use Rattle.face.proofs.plans.desk_read.Goals as goal
 

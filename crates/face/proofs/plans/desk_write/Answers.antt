@@ -1,5 +1,4 @@
 -- `face::plans::desk_write` meets its contract.
-use borrow.Author.Rules.{rules}
 use Rattle.face.proofs.Given.{write_told}
 use Rattle.face.proofs.plans.desk_write.Goals as goal
 

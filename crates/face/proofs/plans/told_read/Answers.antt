@@ -1,5 +1,4 @@
 -- `face::plans::told_read` meets its contract.
-use borrow.Author.Rules.{rules}
 use Rattle.face.proofs.plans.told_read.Goals as goal
 
 pub returns : goal.returns

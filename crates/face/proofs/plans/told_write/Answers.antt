@@ -1,5 +1,4 @@
 -- `face::plans::told_write` meets its contract.
-use borrow.Author.Rules.{rules}
 use Rattle.face.proofs.plans.told_write.Goals as goal
 
 pub returns : goal.returns

@@ -1,7 +1,6 @@
 -- `questions::responses::judge` meets its contract: late where the bound is over the deadline.
 use mathlib.Core.Path.{sym, ap, ◌∙◌}
 use native.Mathlib.Omega.{arith}
-use borrow.Author.Rules.{rules}
 use Rattle.questions.specs.Judged.{judged_by}
 use Rattle.questions.proofs.Responding.{judged_late, judged_met, judged_endless}
 use Rattle.questions.proofs.responses.judge.Goals as goal

@@ -4,7 +4,6 @@ use Prim.Native.Nat.{ℕ, ◌<◌}
 use native.Mathlib.Omega.{arith}
 use lib.ListN.{length, get_or}
 use lib.Seq.{get_or-take}
-use borrow.Author.Rules.{rules}
 use Rattle.rows.specs.Rows.{no_stream}
 use Rattle.desk.specs.declared.Desk.{Desk}
 use Rattle.answers.specs.declared.Figure.{Figure}
