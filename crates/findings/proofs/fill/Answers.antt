@@ -7,7 +7,8 @@ use Rattle.std.specs.Io.KnownBytes.{Consumes}
 use Rattle.findings.proofs.fill.Goals as goal
 
 -- the first n octets, which are kept, and k behind them
-two_parts : (n k : ℕ) (old new : List ℕ) → take n new ≡ take n old → take n old ++ take k (drop n new) ≡ take (n + k) new
+two_parts : (n k : ℕ) (old new : List ℕ) → take n new ≡ take n old
+    → take n old ++ take k (drop n new) ≡ take (n + k) new
 two_parts n k old new kept = ap (λ xs. xs ++ take k (drop n new)) (sym kept) ∙ sym (take-add n k new)
 
 pub loop-n-preserved : goal.loop-n-preserved

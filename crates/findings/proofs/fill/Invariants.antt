@@ -1,3 +1,4 @@
+-- The octets read so far are the first n of the buffer.
 use Rattle.std.proofs.Common.{length, ◌-◌, ◌≤◌, ◌≡◌, take}
 use Rattle.std.specs.Io.KnownBytes.{Consumes}
 use Rattle.findings.proofs.fill.Given as goal
