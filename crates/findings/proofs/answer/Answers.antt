@@ -10,4 +10,5 @@ returns g c = record {
   text =
       front _ _ c.in_ok-n.n 4_096 c.fill.new.buf (search rules) (search rules) c.in_ok-n.ensures.octets
       (λ h. c.in_ok-n.ensures.end (search rules)) _ c.answer.ensures.0;
+  failed = search rules;
 }
