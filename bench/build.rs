@@ -1,9 +1,7 @@
-// Links the proved core: `rt lib` in crates/speed writes it.
+// Links the proved core: `tools/staticlib speed` at the root writes it.
 fn main() {
-    let dir = std::path::Path::new(env!("CARGO_MANIFEST_DIR")).join("../crates/speed/out");
-    let archive = dir.join("libspeed.a");
-    println!("cargo:rerun-if-changed={}", archive.display());
-    assert!(archive.exists(), "{} is not there: run `rt lib` in crates/speed", archive.display());
+    let dir = std::path::Path::new(env!("CARGO_MANIFEST_DIR")).join("../target/staticlib");
     println!("cargo:rustc-link-search=native={}", dir.display());
     println!("cargo:rustc-link-lib=static=speed");
+    println!("cargo:rerun-if-changed={}", dir.join("libspeed.a").display());
 }

@@ -1,7 +1,7 @@
 /* The desk for one output port of a switch (document 01), for programs in C.
  *
- * Link the proved core, which `rt lib` in crates/face writes for x86-64 Linux:
- *     cc program.c crates/face/out/libface.a
+ * Link the proved core, which `tools/staticlib face` at the project's root writes for x86-64 Linux:
+ *     cc program.c target/staticlib/libface.a
  *
  * A desk goes into a call by value and comes back in its reply, changed or unchanged; nothing is kept between calls,
  * and nothing has to be freed. Only hand over desks that a call handed back: desk_bare's, or any reply's `desk`. That

@@ -1,4 +1,4 @@
-// The proved core, as `rt lib` in crates/speed builds it. What its contract requires is met by every plan in range: the
+// The proved core, as `tools/staticlib speed` links it. What its contract requires is met by every plan in range: the
 // stairs are those of the slots, and the rows hold the numbers of streams.
 use crate::plain::Question;
 use crate::plan::Stairs;

@@ -56,8 +56,7 @@ fn told_figure(d: Desk, answer: Figure) -> Figured
 }
 
 // The blocked runs, by rising start.
-#[unsafe(no_mangle)]
-pub extern "C" fn desk_runs(d: Desk) -> RunsTold
+pub fn desk_runs(d: Desk) -> RunsTold
     requires { Fit d }
     ensures { (result ≡ numbered_runs (runs_reply (asked (held d) (ask_runs (held d))))) × Fit result.desk }
 {
@@ -68,8 +67,7 @@ pub extern "C" fn desk_runs(d: Desk) -> RunsTold
 }
 
 // The stairs, by rising distance.
-#[unsafe(no_mangle)]
-pub extern "C" fn desk_stairs(d: Desk) -> StairsTold
+pub fn desk_stairs(d: Desk) -> StairsTold
     requires { Fit d }
     ensures { (result ≡ numbered_stairs (stairs_reply (asked (held d) (ask_stairs (held d))))) × Fit result.desk }
 {
@@ -80,8 +78,7 @@ pub extern "C" fn desk_stairs(d: Desk) -> StairsTold
 }
 
 // Interference V(t).
-#[unsafe(no_mangle)]
-pub extern "C" fn desk_interference(d: Desk, t: u64) -> Figured
+pub fn desk_interference(d: Desk, t: u64) -> Figured
     requires { Fit d }
     ensures { (result ≡ numbered_figure (figure_reply (asked (held d) (ask_interference t (held d)))))
         × Fit result.desk }
@@ -92,8 +89,7 @@ pub extern "C" fn desk_interference(d: Desk, t: u64) -> Figured
 }
 
 // The response bound of the stream with this id.
-#[unsafe(no_mangle)]
-pub extern "C" fn desk_response(d: Desk, id: u64) -> Figured
+pub fn desk_response(d: Desk, id: u64) -> Figured
     requires { Fit d }
     ensures { (result ≡ numbered_figure (figure_reply (asked (held d) (ask_response id (held d))))) × Fit result.desk }
 {

@@ -29,16 +29,14 @@ fn told_edit(d: Desk, reply: EditReply) -> Edited
 }
 
 // The bare desk.
-#[unsafe(no_mangle)]
-pub extern "C" fn desk_bare() -> Desk
+pub fn desk_bare() -> Desk
     ensures { (result ≡ desk_of bare) × Fit result }
 {
     desk::bare()
 }
 
 // The desk with its port opened.
-#[unsafe(no_mangle)]
-pub extern "C" fn desk_open_port(d: Desk, rate: u64, cycle: u64, guard: u64, header: u64) -> Edited
+pub fn desk_open_port(d: Desk, rate: u64, cycle: u64, guard: u64, header: u64) -> Edited
     requires { Fit d }
     ensures { (result ≡ numbered (edit_reply (edited (held d)
         (open_port (port_from rate cycle guard header) (held d)))))
@@ -54,8 +52,7 @@ pub extern "C" fn desk_open_port(d: Desk, rate: u64, cycle: u64, guard: u64, hea
 }
 
 // The desk with one slot more.
-#[unsafe(no_mangle)]
-pub extern "C" fn desk_add_slot(d: Desk, start: u64, end: u64) -> Edited
+pub fn desk_add_slot(d: Desk, start: u64, end: u64) -> Edited
     requires { Fit d }
     ensures { (result ≡ numbered (edit_reply (edited (held d) (add_slot (slot_of start end) (held d)))))
         × Fit result.desk }
@@ -64,8 +61,7 @@ pub extern "C" fn desk_add_slot(d: Desk, start: u64, end: u64) -> Edited
 }
 
 // The desk without the slot that has this start.
-#[unsafe(no_mangle)]
-pub extern "C" fn desk_remove_slot(d: Desk, start: u64) -> Edited
+pub fn desk_remove_slot(d: Desk, start: u64) -> Edited
     requires { Fit d }
     ensures { (result ≡ numbered (edit_reply (edited (held d) (remove_slot start (held d))))) × Fit result.desk }
 {
@@ -73,8 +69,7 @@ pub extern "C" fn desk_remove_slot(d: Desk, start: u64) -> Edited
 }
 
 // The desk with one stream more.
-#[unsafe(no_mangle)]
-pub extern "C" fn desk_add_stream(
+pub fn desk_add_stream(
     d: Desk,
     id: u64,
     priority: u64,
@@ -100,8 +95,7 @@ pub extern "C" fn desk_add_stream(
 }
 
 // The desk without the stream that has this id.
-#[unsafe(no_mangle)]
-pub extern "C" fn desk_remove_stream(d: Desk, id: u64) -> Edited
+pub fn desk_remove_stream(d: Desk, id: u64) -> Edited
     requires { Fit d }
     ensures { (result ≡ numbered (edit_reply (edited (held d) (remove_stream id (held d))))) × Fit result.desk }
 {

@@ -6,8 +6,13 @@ mod edits;
 mod numbers;
 mod plans;
 
+pub use asking::{desk_interference, desk_response, desk_runs, desk_stairs};
 use desk::Desk;
+pub use edits::{
+    desk_add_slot, desk_add_stream, desk_bare, desk_open_port, desk_remove_slot, desk_remove_stream,
+};
 use meaning::Run;
+pub use plans::{desk_read, desk_write};
 
 // In every reply `number` is document 01's number of the refusal, and 0 where the call is accepted. The other numbers
 // are 0 where there is nothing to tell.

@@ -42,16 +42,14 @@ fn told_write(d: Desk, answer: WriteAnswer) -> PlanWritten
 }
 
 // The desk of a plan; or why it is refused, where, and the bare desk.
-#[unsafe(no_mangle)]
-pub extern "C" fn desk_read(plan: &[u8]) -> PlanRead
+pub fn desk_read(plan: &[u8]) -> PlanRead
     ensures { (result ≡ numbered_read (read_reply (read_plan plan.now))) × Fit result.desk }
 {
     told_read(reader::read(plan))
 }
 
 // The plan of a desk, written at the front of the caller's room.
-#[unsafe(no_mangle)]
-pub extern "C" fn desk_write(d: Desk, room: &mut [u8]) -> PlanWritten
+pub fn desk_write(d: Desk, room: &mut [u8]) -> PlanWritten
     requires { Fit d }
     ensures { (result ≡ numbered_write (write_reply (asked (held d)
         (written (write_plan room.old (held d))))))

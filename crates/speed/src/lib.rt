@@ -12,8 +12,7 @@ use bound::Response;
 use search::{Own, Sizes};
 
 // The bound of a stream beside streams that are unpacked; 1,000,000,000 for an endless one.
-#[unsafe(no_mangle)]
-pub extern "C" fn speed_bound<'a>(
+pub fn speed_bound<'a>(
     per: &'a [u32; 64],
     jit: &'a [u32; 64],
     cost: &'a [u32; 64],

@@ -3,7 +3,8 @@
 //! Every figure and every refusal comes from the proved core, `crates/face` and what lies below it, which is proved to
 //! answer what document 01 defines. This crate only turns its numbers into Rust's types; it is not proved itself.
 //!
-//! Build the core first: `rt lib` in `crates/face` writes `crates/face/out/libface.a` (x86-64), which `build.rs` links.
+//! Build the core first: `tools/staticlib face` at the project's root writes `target/staticlib/libface.a` (x86-64), which
+//! `build.rs` links.
 //!
 //! Plan F of document 01:
 //!
