@@ -18,6 +18,8 @@ use Rattle.meaning.specs.Bytes.{Field, field_length, field_octets, front, edit, 
 use Rattle.meaning.specs.Bytes.{after_front, step, walk, Outcome, read, refused_at, ended, read_plan, desk_read}
 use Rattle.meaning.specs.Plans.{Begins, MadeOf, AcceptedPlan}
 -- for the order of the check alone: the instances come before every law, so that a wrong definition is refused there
+use Rattle.meaning.proofs.Instances.{small_gate}
+use Rattle.meaning.proofs.CallInstances.{first_decides}
 use Rattle.meaning.proofs.Sounds.{sound_bare}
 use Rattle.meaning.proofs.Plans.{plan_length_lem}
 use Rattle.meaning.proofs.Octets.{Octets}

@@ -23,9 +23,12 @@ fn show_file<R: Print + Files + Alloc>(rt: &R, path: &str) -> anyhow::Result<()>
     Ok(())
 }
 
+// A file that cannot be read is told on standard error, and the next one is taken.
 fn main(rt: HostRuntime) -> anyhow::Result<()> {
     for path in env::args(&rt)?.skip(1) {
-        show_file(&rt, path.as_str())?;
+        if let Err(why) = show_file(&rt, path.as_str()) {
+            eprintln!(rt; "{why:#}")?;
+        }
     }
     Ok(())
 }
