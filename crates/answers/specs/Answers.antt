@@ -1,10 +1,16 @@
 -- An answer of document 01 as the enum that a call hands back, and its number and values.
-use Rattle.std.specs.Prelude.{List, [], ◌∷◌, ℕ}
+use Rattle.std.specs.Prelude.{List, [], ◌∷◌, ℕ, Result, Ok, Err}
+use Rattle.meaning.specs.declared.Refusal.{Refusal}
 use Rattle.meaning.specs.Refusals.{Answer, accepted, refused, number_of, values_of}
 use Rattle.answers.specs.declared.Verdict.{Verdict}
 use Rattle.answers.specs.declared.Verdict.TheVariants.{Accepted, Refused}
 use Rattle.answers.specs.declared.Figure.{Figure}
 use Rattle.answers.specs.declared.Figure.TheVariants as Figures
+
+-- an answer of document 01 as the result that a call hands back
+abbrev pub answer_of : {A : Type 0} → Answer A → Result A Refusal
+answer_of (accepted a) = Ok a
+answer_of (refused r) = Err r
 
 abbrev pub verdict_of : {A : Type 0} → Answer A → Verdict
 verdict_of (accepted a) = Accepted

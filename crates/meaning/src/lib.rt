@@ -20,7 +20,7 @@ pub struct Gate {
 
 // A scheduled slot, from its start up to, not including, its end.
 #[repr(C)]
-#[derive(Clone, Copy)]
+#[derive(Clone, Copy, Default)]
 pub struct Slot {
     pub start: u32,
     pub end: u32,
@@ -28,7 +28,7 @@ pub struct Slot {
 
 // An unscheduled stream.
 #[repr(C)]
-#[derive(Clone, Copy)]
+#[derive(Clone, Copy, Default)]
 pub struct Stream {
     pub id: u32,
     pub priority: u32,
@@ -40,7 +40,7 @@ pub struct Stream {
 
 // A blocked run: the cell it starts at, and its length.
 #[repr(C)]
-#[derive(Clone, Copy)]
+#[derive(Clone, Copy, Default)]
 pub struct Run {
     pub start: u32,
     pub len: u32,
