@@ -7,14 +7,14 @@ use Rattle.meaning.specs.declared.Stream.{Stream}
 use Rattle.meaning.specs.declared.Stair.{Stair}
 use Rattle.meaning.specs.Runs.{gate_of}
 use Rattle.meaning.specs.Interference.{stairs}
-use Rattle.meaning.specs.Desks.{bare, opened, Reply}
-use Rattle.meaning.specs.Desks.{Desk as Plan}
+use Rattle.meaning.specs.Desks.{bare, opened}
+use Rattle.meaning.specs.Desks.{Desk as Plan, Reply as Meant}
 use Rattle.meaning.specs.Promises.{SoundDesk}
 use Rattle.rows.specs.Rows.{slot_row, stream_row}
 use Rattle.table.specs.Rows.{table_of}
-use Rattle.answers.specs.Answers.{verdict_of}
+use Rattle.answers.specs.Answers.{answer_of}
 use Rattle.desk.specs.declared.Desk.{Desk}
-use Rattle.desk.specs.declared.EditReply.{EditReply}
+use Rattle.desk.specs.declared.Reply.{Reply}
 
 -- ---- the struct and what it holds
 
@@ -65,7 +65,11 @@ pub record Fit (d : Desk) : Type 0 where
   pub sound : SoundDesk (held d)
   pub canonical : d ≡ desk_of (held d)
 
--- ---- the reply of an edit
+-- ---- replies
 
-abbrev pub edit_reply : Reply (Unit {0}) → EditReply
-edit_reply r = record { verdict = verdict_of r.answer; desk = desk_of r.desk }
+-- what a call means, as the struct that hands it back
+abbrev pub reply_of : {A : Type 0} → Meant A → Reply A
+reply_of r = record { answer = answer_of r.answer; desk = desk_of r.desk }
+
+abbrev pub edit_reply : Meant (Unit {0}) → Reply (Unit {0})
+edit_reply r = reply_of r
