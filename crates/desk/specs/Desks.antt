@@ -1,5 +1,5 @@
 -- The desk struct: what it holds, when it is fit, and how the meaning of an edit is handed back.
-use Rattle.std.specs.Prelude.{◌≡◌, Bool, true, false, cond, List, [], length, take}
+use Rattle.std.specs.Prelude.{◌≡◌, Bool, true, false, cond, List, [], ℕ, length, take}
 use Rattle.meaning.specs.declared.Port.{Port}
 use Rattle.meaning.specs.declared.Gate.{Gate}
 use Rattle.meaning.specs.declared.Slot.{Slot}
@@ -50,6 +50,13 @@ slots_in d = take d.nslots d.slots
 
 abbrev pub streams_in : Desk → List Stream
 streams_in d = take d.nstreams d.streams
+
+-- the distances and totals of its stairs
+abbrev pub far_in : Desk → List ℕ
+far_in d = take d.nstairs d.far
+
+abbrev pub tot_in : Desk → List ℕ
+tot_in d = take d.nstairs d.tot
 
 -- the gate numbers in force
 abbrev pub gate_in : Desk → Gate

@@ -7,7 +7,7 @@ mod slots;
 mod streams;
 
 use meaning::{Refusal, Slot, Stream};
-pub use parts::{entries_of, with_stairs};
+pub use parts::{entries_of, stairs_of, with_stairs};
 pub use ports::{bare, open_port};
 pub use slots::{add_slot, remove_slot};
 pub use streams::{add_stream, remove_stream};

@@ -1,17 +1,18 @@
 // The parts of an edit: what the desk holds, its stairs kept or built, and the answer.
 ghost use Rattle.std.specs.Prelude.{◌≡◌, true, Ok};
 ghost use Rattle.entries.specs.Entries.{held_in, FitEntries};
-ghost use Rattle.desk.specs.Desks.{desk_of, Fit};
+ghost use Rattle.desk.specs.Desks.{desk_of, Fit, far_in, tot_in};
 ghost use Rattle.desk.specs.Edits.{entries_in, with_entries, answered, result_of};
 
 use crate::{Desk, Reply};
 use answers::Verdict;
 use entries::Entries;
 use meaning::Refusal;
+use table::Stairs;
 
 // What the desk holds, without its stairs.
-pub fn entries_of(d: Desk) -> Entries
-    ensures { result ≡ entries_in d }
+pub fn entries_of(d: &Desk) -> Entries
+    ensures { result ≡ entries_in d.now }
 {
     let slots = d.slots;
     let streams = d.streams;
@@ -25,6 +26,18 @@ pub fn entries_of(d: Desk) -> Entries
         slots,
         nstreams: d.nstreams,
         streams,
+    }
+}
+
+// The stairs that an open desk stores, lent.
+pub fn stairs_of(d: &Desk) -> Stairs<'_>
+    requires { Fit d.now × (d.now.opened ≡ true) }
+    ensures { (result.cycle ≡ d.now.cycle) × (result.far.now ≡ far_in d.now) × (result.tot.now ≡ tot_in d.now) }
+{
+    Stairs {
+        cycle: d.cycle,
+        far: &d.far[..d.nstairs],
+        tot: &d.tot[..d.nstairs],
     }
 }
 

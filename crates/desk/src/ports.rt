@@ -44,6 +44,6 @@ pub fn open_port(d: Desk, p: PortNumbers) -> Reply<()>
     requires { Fit d }
     ensures { (result ≡ edit_reply (edited (held d) (open_port (port_of p) (held d)))) × Fit result.desk }
 {
-    let made = entries::hold_port(entries_of(d), p);
+    let made = entries::hold_port(entries_of(&d), p);
     keep_stairs(d, made.entries, answer(made.verdict))
 }

@@ -13,7 +13,7 @@ pub fn add_slot(d: Desk, start: u64, end: u64) -> Reply<()>
     requires { Fit d }
     ensures { (result ≡ edit_reply (edited (held d) (add_slot (slot_of start end) (held d)))) × Fit result.desk }
 {
-    let made = entries::hold_slot(entries_of(d), start, end);
+    let made = entries::hold_slot(entries_of(&d), start, end);
     build_stairs(d, made.entries, answer(made.verdict))
 }
 
@@ -22,6 +22,6 @@ pub fn remove_slot(d: Desk, start: u64) -> Reply<()>
     requires { Fit d }
     ensures { (result ≡ edit_reply (edited (held d) (remove_slot start (held d)))) × Fit result.desk }
 {
-    let made = entries::drop_slot(entries_of(d), start);
+    let made = entries::drop_slot(entries_of(&d), start);
     build_stairs(d, made.entries, answer(made.verdict))
 }

@@ -14,7 +14,7 @@ pub fn add_stream(d: Desk, j: StreamNumbers) -> Reply<()>
     requires { Fit d }
     ensures { (result ≡ edit_reply (edited (held d) (add_stream (stream_of j) (held d)))) × Fit result.desk }
 {
-    let made = entries::hold_stream(entries_of(d), j);
+    let made = entries::hold_stream(entries_of(&d), j);
     keep_stairs(d, made.entries, answer(made.verdict))
 }
 
@@ -23,6 +23,6 @@ pub fn remove_stream(d: Desk, id: u64) -> Reply<()>
     requires { Fit d }
     ensures { (result ≡ edit_reply (edited (held d) (remove_stream id (held d)))) × Fit result.desk }
 {
-    let made = entries::drop_stream(entries_of(d), id);
+    let made = entries::drop_stream(entries_of(&d), id);
     keep_stairs(d, made.entries, answer(made.verdict))
 }
