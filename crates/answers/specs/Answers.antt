@@ -12,6 +12,16 @@ abbrev pub answer_of : {A : Type 0} → Answer A → Result A Refusal
 answer_of (accepted a) = Ok a
 answer_of (refused r) = Err r
 
+-- document 01's number of such a result, 0 where it is accepted
+unfoldable pub answer_number : {A : Type 0} → Result A Refusal → ℕ
+answer_number (Ok a) = 0
+answer_number (Err r) = number_of r
+
+-- and the values that it carries, where it is a figure's
+unfoldable pub answer_values : Result ℕ Refusal → List ℕ
+answer_values (Ok x) = x ∷ []
+answer_values (Err r) = values_of r
+
 abbrev pub verdict_of : {A : Type 0} → Answer A → Verdict
 verdict_of (accepted a) = Accepted
 verdict_of (refused r) = Refused r

@@ -3,6 +3,7 @@
 
 ghost use Rattle.std.specs.Prelude.{◌≡◌};
 ghost use Rattle.meaning.specs.Refusals.{number_of};
+ghost use Rattle.answers.specs.Answers.{answer_number};
 
 use meaning::Refusal;
 
@@ -21,6 +22,7 @@ pub enum Figure {
 }
 
 // Document 01's number of a refusal.
+#[tactic(auto, unfolding(meaning::specs::Refusals::number_of))]
 pub fn number(why: Refusal) -> u64
     ensures { result ≡ number_of why }
 {
@@ -39,5 +41,16 @@ pub fn number(why: Refusal) -> u64
         Refusal::Endless => 12,
         Refusal::Late { bound } => 13,
         Refusal::OverHorizon => 14,
+    }
+}
+
+// Document 01's number of an answer: 0 where the call is accepted.
+#[tactic(auto, unfolding(crate::specs::Answers::answer_number))]
+pub fn number_of_answer<T>(answer: &Result<T, Refusal>) -> u64
+    ensures { result ≡ answer_number answer.now }
+{
+    match answer {
+        Ok(_) => 0,
+        Err(why) => number(*why),
     }
 }

@@ -1,9 +1,8 @@
 -- What the functions that write a text ensure, and the words of a figure.
-use Rattle.std.specs.Prelude.{◌≡◌, List, [], ◌∷◌, ◌++◌, ℕ, length, drop}
+use Rattle.std.specs.Prelude.{◌≡◌, List, [], ◌∷◌, ◌++◌, ℕ, length, drop, Result, Ok, Err}
+use Rattle.meaning.specs.declared.Refusal.{Refusal}
 use Rattle.meaning.specs.Refusals.{values_of}
 use Rattle.meaning.specs.Findings.{octets_in, told, newline}
-use Rattle.answers.specs.declared.Figure.{Figure}
-use Rattle.answers.specs.declared.Figure.TheVariants as Figures
 
 -- the text is in front of the room, the rest keeps its value, and r octets were written
 pub record Wrote (text : List ℕ) (r : ℕ) (before after : List ℕ) : Type 0 where
@@ -16,9 +15,9 @@ refusal_words deadline [] = octets_in " endless"
 refusal_words deadline (b ∷ bs) = told " late " b ++ told " of " deadline
 
 -- the words of what the response call answers
-unfoldable pub figure_words : ℕ → Figure → List ℕ
-figure_words deadline (Figures.Is b) = told " bound " b ++ told " of " deadline
-figure_words deadline (Figures.Refused why) = refusal_words deadline (values_of why)
+unfoldable pub figure_words : ℕ → Result ℕ Refusal → List ℕ
+figure_words deadline (Ok b) = told " bound " b ++ told " of " deadline
+figure_words deadline (Err why) = refusal_words deadline (values_of why)
 
-unfoldable pub figure_line : ℕ → ℕ → Figure → List ℕ
+unfoldable pub figure_line : ℕ → ℕ → Result ℕ Refusal → List ℕ
 figure_line id deadline figure = told "stream " id ++ figure_words deadline figure ++ newline

@@ -7,7 +7,6 @@ ghost use Rattle.lines.specs.Texts.{Wrote, figure_words, figure_line};
 
 mod texts;
 
-use answers::Figure;
 use meaning::{Refusal, Stair};
 use texts::{put_told, put_word};
 
@@ -50,28 +49,26 @@ pub fn put_stair(out: &mut [u8], x: Stair) -> usize
 }
 
 // The words of a stream's verdict: a bound, a bound over the deadline, or none.
-fn put_verdict(out: &mut [u8], figure: Figure, deadline: u32) -> usize
-    requires { length (figure_words deadline figure) ≤ length out.old }
-    ensures { Wrote (figure_words deadline figure) result out.old out.new }
+fn put_verdict(out: &mut [u8], bound: Result<u64, Refusal>, deadline: u32) -> usize
+    requires { length (figure_words deadline bound) ≤ length out.old }
+    ensures { Wrote (figure_words deadline bound) result out.old out.new }
 {
-    match figure {
-        Figure::Is(bound) => put_of(out, b" bound ", bound, deadline),
-        Figure::Refused(why) => {
-            if let Refusal::Late { bound } = why {
-                return put_of(out, b" late ", bound as u64, deadline);
-            }
-            put_word(out, b" endless")
-        }
+    match bound {
+        Ok(bound) => put_of(out, b" bound ", bound, deadline),
+        Err(why) => match why {
+            Refusal::Late { bound } => put_of(out, b" late ", bound as u64, deadline),
+            _ => put_word(out, b" endless"),
+        },
     }
 }
 
 // A stream's line: id, verdict, bound, deadline.
-pub fn put_stream(out: &mut [u8], id: u32, figure: Figure, deadline: u32) -> usize
-    requires { 8 + length (decimal id) + length (figure_words deadline figure) ≤ length out.old }
-    ensures { Wrote (figure_line id deadline figure) result out.old out.new }
+pub fn put_stream(out: &mut [u8], id: u32, bound: Result<u64, Refusal>, deadline: u32) -> usize
+    requires { 8 + length (decimal id) + length (figure_words deadline bound) ≤ length out.old }
+    ensures { Wrote (figure_line id deadline bound) result out.old out.new }
 {
     let mut at = put_told(out, b"stream ", id as u64);
-    at += put_verdict(&mut out[at..], figure, deadline);
+    at += put_verdict(&mut out[at..], bound, deadline);
     at + put_word(&mut out[at..], b"\n")
 }
 

@@ -12,17 +12,11 @@ pub fn put_word(out: &mut [u8], word: &[u8]) -> usize
     word.len()
 }
 
-// How many digits a number has.
+// How many digits a number has: 0 has one too.
 fn places(n: u64) -> usize
     ensures { result ≡ length (decimal n) }
 {
-    let mut k: usize = 1;
-    let mut rest = n;
-    while 9 < rest {
-        rest /= 10;
-        k += 1;
-    }
-    k
+    n.max(1).ilog10() as usize + 1
 }
 
 // The digits of a number at the front of the room: the last one first, from behind.
@@ -31,14 +25,11 @@ pub fn put_decimal(out: &mut [u8], n: u64) -> usize
     ensures { Wrote (decimal n) result out.old out.new }
 {
     let k = places(n);
-    let mut i = k - 1;
     let mut rest = n;
-    while 9 < rest {
-        out[i] = 48 + (rest % 10) as u8;
+    for i in (0..k).rev() {
+        out[i] = b'0' + (rest % 10) as u8;
         rest /= 10;
-        i -= 1;
     }
-    out[i] = 48 + rest as u8;
     k
 }
 

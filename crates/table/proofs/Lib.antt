@@ -1,4 +1,4 @@
 pub mod Rows
 pub mod Stored
-pub mod Halving
+pub mod Reached
 pub mod Demand

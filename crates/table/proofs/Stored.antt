@@ -3,7 +3,7 @@
 use mathlib.Core.Path.{◌≡◌, refl, ap, ap₂, ◌∙◌}
 use mathlib.Core.List.Memᴰ
 use mathlib.Core.List.{List, [], ◌∷◌, map, get_last_d}
-use Prim.Native.Nat.{ℕ, zero, suc, ◌-◌, ◌≤◌, ◌<◌, zero-le}
+use Prim.Native.Nat.{ℕ, zero, suc, ◌≤◌, ◌<◌, zero-le}
 use native.Mathlib.Omega.{arith}
 use lib.ListN.{length, get_or, length-map}
 use lib.Seq.{take_at}
@@ -11,18 +11,6 @@ use Rattle.laws.specs.Lists.{filled, Mem, RisingBy}
 use Rattle.laws.proofs.Lists.{mem_head}
 use Rattle.meaning.specs.declared.Stair.{Stair}
 use Rattle.table.specs.Lookup.{paired, stairs_in, all_in, RisesTo}
-
--- ---- the last
-
-pub all_none : (tot : List ℕ) (n : ℕ) → n ≡ 0 → 0 ≡ all_in tot n
-unfolding all_in
-all_none tot zero e = refl
-all_none tot (suc n) e = absurd (omega arith)
-
-pub all_some : (tot : List ℕ) (n : ℕ) → 0 < n → get_or tot (n - 1) 0 ≡ all_in tot n
-unfolding all_in
-all_some tot zero h = absurd (omega arith)
-all_some tot (suc n) h = ap (λ (i : ℕ). get_or tot i 0) (omega arith)
 
 -- ---- n stairs
 

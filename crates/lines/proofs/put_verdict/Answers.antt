@@ -9,36 +9,36 @@ use Rattle.lines.proofs.put_verdict.Goals as goal
 pub put_of-requires : goal.put_of-requires
 put_of-requires c =
     let a = c.args in
-    omega (arith, bound_length a.deadline a.figure c.in-Is.bound c.in-Is.is)
+    omega (arith, bound_length a.deadline a.bound c.in-Ok.bound c.in-Ok.is)
 
 pub put_of-requires-in-Late : goal.put_of-requires-in-Late
 put_of-requires-in-Late c =
     let a = c.args in
-    omega (arith, late_length a.deadline a.figure c.in-Refused.why c.in-Late.bound c.in-Refused.is c.in-Late.is)
+    omega (arith, late_length a.deadline a.bound c.in-Err.why c.in-Late.bound c.in-Err.is c.in-Late.is)
 
 pub returns-in-Late : goal.returns-in-Late
 unfolding told octets_in
 returns-in-Late c =
     let a = c.args in
-    rw (late_words a.deadline a.figure c.in-Refused.why c.in-Late.bound c.in-Refused.is c.in-Late.is)
+    rw (late_words a.deadline a.bound c.in-Err.why c.in-Late.bound c.in-Err.is c.in-Late.is)
     c.put_of-in-Late.ensures.0
 
 pub put_word-requires : goal.put_word-requires
 put_word-requires c =
     let a = c.args in
-    let why = c.in-Refused.why in
-    omega (arith, endless_length a.deadline a.figure why c.in-Refused.is (none_but_late why c.in_default.not-Late))
+    let why = c.in-Err.why in
+    omega (arith, endless_length a.deadline a.bound why c.in-Err.is (none_but_late why c.in_default.not-Late))
 
-pub returns-in-Is : goal.returns-in-Is
+pub returns-in-Ok : goal.returns-in-Ok
 unfolding told octets_in
-returns-in-Is c =
+returns-in-Ok c =
     let a = c.args in
-    rw (bound_words a.deadline a.figure c.in-Is.bound c.in-Is.is) c.put_of.ensures.0
+    rw (bound_words a.deadline a.bound c.in-Ok.bound c.in-Ok.is) c.put_of.ensures.0
 
 pub returns-in_default : goal.returns-in_default
 unfolding octets_in
 returns-in_default c =
     let a = c.args in
-    let why = c.in-Refused.why in
-    rw (endless_words a.deadline a.figure why c.in-Refused.is (none_but_late why c.in_default.not-Late))
+    let why = c.in-Err.why in
+    rw (endless_words a.deadline a.bound why c.in-Err.is (none_but_late why c.in_default.not-Late))
     c.put_word.ensures
