@@ -16,7 +16,7 @@ use Rattle.meaning.proofs.Sounds.{remove_stream_sound}
 use Rattle.meaning.proofs.Readings.{edit_all, edit_first}
 use Rattle.meaning.proofs.Accepted.{accepted_when}
 use Rattle.desk.specs.declared.Desk.{Desk}
-use Rattle.desk.specs.declared.EditReply.{EditReply}
+use Rattle.desk.specs.declared.Reply.{Reply}
 use Rattle.desk.specs.Desks.{desk_of, held, Fit, edit_reply}
 use Rattle.desk.specs.Reach.{Call, opening, adding_slot, removing_slot, adding_stream, removing_stream, made, after}
 use Rattle.desk.specs.Reach.{after_all, Reached, DemandThreeHolds}
@@ -64,12 +64,12 @@ after_last [] c e = refl
 after_last (b ∷ cs) c e = after_last cs c (after b e)
 
 -- what any edit hands back on a desk that is reached, accepted or refused
-pub reached_edit : (c : Call) (d : Desk) (r : EditReply) → Reached d
+pub reached_edit : (c : Call) (d : Desk) (r : Reply (Unit {0})) → Reached d
     → r ≡ edit_reply (edited (held d) (made c (held d))) → Reached r.desk
 unfolding after
 reached_edit c d r (cs, q) e = (
   cs ++ c ∷ [],
-  ap (λ (x : EditReply). x.desk) e
+  ap (λ (x : Reply (Unit {0})). x.desk) e
       ∙ ap (λ (x : Plan). desk_of (after c x)) (ap held q ∙ held_of (after_all cs bare))
       ∙ ap desk_of (sym (after_last cs c bare)),
 )

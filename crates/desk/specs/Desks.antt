@@ -1,5 +1,5 @@
 -- The desk struct: what it holds, when it is fit, and how the meaning of an edit is handed back.
-use Rattle.std.specs.Prelude.{◌≡◌, Bool, true, false, cond, List, [], length, take}
+use Rattle.std.specs.Prelude.{◌≡◌, Bool, true, false, cond, List, [], ℕ, length, take}
 use Rattle.meaning.specs.declared.Port.{Port}
 use Rattle.meaning.specs.declared.Gate.{Gate}
 use Rattle.meaning.specs.declared.Slot.{Slot}
@@ -7,14 +7,14 @@ use Rattle.meaning.specs.declared.Stream.{Stream}
 use Rattle.meaning.specs.declared.Stair.{Stair}
 use Rattle.meaning.specs.Runs.{gate_of}
 use Rattle.meaning.specs.Interference.{stairs}
-use Rattle.meaning.specs.Desks.{bare, opened, Reply}
-use Rattle.meaning.specs.Desks.{Desk as Plan}
+use Rattle.meaning.specs.Desks.{bare, opened}
+use Rattle.meaning.specs.Desks.{Desk as Plan, Reply as Meant}
 use Rattle.meaning.specs.Promises.{SoundDesk}
 use Rattle.rows.specs.Rows.{slot_row, stream_row}
 use Rattle.table.specs.Rows.{table_of}
-use Rattle.answers.specs.Answers.{verdict_of}
+use Rattle.answers.specs.Answers.{answer_of}
 use Rattle.desk.specs.declared.Desk.{Desk}
-use Rattle.desk.specs.declared.EditReply.{EditReply}
+use Rattle.desk.specs.declared.Reply.{Reply}
 
 -- ---- the struct and what it holds
 
@@ -51,6 +51,13 @@ slots_in d = take d.nslots d.slots
 abbrev pub streams_in : Desk → List Stream
 streams_in d = take d.nstreams d.streams
 
+-- the distances and totals of its stairs
+abbrev pub far_in : Desk → List ℕ
+far_in d = take d.nstairs d.far
+
+abbrev pub tot_in : Desk → List ℕ
+tot_in d = take d.nstairs d.tot
+
 -- the gate numbers in force
 abbrev pub gate_in : Desk → Gate
 gate_in d = gate_of (port_in d) (streams_in d)
@@ -65,7 +72,11 @@ pub record Fit (d : Desk) : Type 0 where
   pub sound : SoundDesk (held d)
   pub canonical : d ≡ desk_of (held d)
 
--- ---- the reply of an edit
+-- ---- replies
 
-abbrev pub edit_reply : Reply (Unit {0}) → EditReply
-edit_reply r = record { verdict = verdict_of r.answer; desk = desk_of r.desk }
+-- what a call means, as the struct that hands it back
+abbrev pub reply_of : {A : Type 0} → Meant A → Reply A
+reply_of r = record { answer = answer_of r.answer; desk = desk_of r.desk }
+
+abbrev pub edit_reply : Meant (Unit {0}) → Reply (Unit {0})
+edit_reply r = reply_of r

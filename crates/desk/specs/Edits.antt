@@ -1,10 +1,11 @@
 -- An edit in two parts: what is held is edited on its own, and the desk gets it back with stairs.
+use Rattle.std.specs.Prelude.{Result, Ok, Err}
 use Rattle.meaning.specs.declared.Refusal.{Refusal}
 use Rattle.entries.specs.declared.Entries.{Entries}
 use Rattle.answers.specs.declared.Verdict.{Verdict}
 use Rattle.answers.specs.declared.Verdict.TheVariants.{Accepted, Refused}
 use Rattle.desk.specs.declared.Desk.{Desk}
-use Rattle.desk.specs.declared.EditReply.{EditReply}
+use Rattle.desk.specs.declared.Reply.{Reply}
 
 -- what the struct d holds, its stairs left out
 abbrev pub entries_in : Desk → Entries
@@ -41,13 +42,12 @@ with_entries d e =
 
 -- ---- replies
 
-abbrev pub accepting : Desk → EditReply
-accepting d = record { verdict = Accepted; desk = d }
-
-abbrev pub refusing : Desk → Refusal → EditReply
-refusing d why = record { verdict = Refused why; desk = d }
-
 -- the desk made where the edit of the entries was accepted, and the desk d where it was refused
-unfoldable pub answered : Desk → Desk → Verdict → EditReply
-answered d made Accepted = accepting made
-answered d made (Refused why) = refusing d why
+unfoldable pub answered : Desk → Desk → Result (Unit {0}) Refusal → Reply (Unit {0})
+answered d made (Ok u) = record { answer = Ok u; desk = made }
+answered d made (Err why) = record { answer = Err why; desk = d }
+
+-- a verdict as a result
+abbrev pub result_of : Verdict → Result (Unit {0}) Refusal
+result_of Accepted = Ok tt
+result_of (Refused why) = Err why

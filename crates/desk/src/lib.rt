@@ -6,9 +6,8 @@ mod ports;
 mod slots;
 mod streams;
 
-use answers::Verdict;
-use meaning::{Slot, Stream};
-pub use parts::{entries_of, with_stairs};
+use meaning::{Refusal, Slot, Stream};
+pub use parts::{entries_of, stairs_of, with_stairs};
 pub use ports::{bare, open_port};
 pub use slots::{add_slot, remove_slot};
 pub use streams::{add_stream, remove_stream};
@@ -32,8 +31,9 @@ pub struct Desk {
     pub tot: [u32; 993],
 }
 
+// What a call answers, and the desk that it hands back.
 #[derive(Clone, Copy)]
-pub struct EditReply {
-    pub verdict: Verdict,
+pub struct Reply<T> {
+    pub answer: Result<T, Refusal>,
     pub desk: Desk,
 }

@@ -1,38 +1,18 @@
 // The parts of an edit: what the desk holds, its stairs kept or built, and the answer.
-ghost use Rattle.std.specs.Prelude.{◌≡◌, true};
-ghost use Rattle.answers.specs.declared.Verdict.TheVariants.{Accepted};
+ghost use Rattle.std.specs.Prelude.{◌≡◌, true, Ok};
 ghost use Rattle.entries.specs.Entries.{held_in, FitEntries};
-ghost use Rattle.desk.specs.Desks.{desk_of, Fit};
-ghost use Rattle.desk.specs.Edits.{entries_in, with_entries, accepting, refusing, answered};
+ghost use Rattle.desk.specs.Desks.{desk_of, Fit, far_in, tot_in};
+ghost use Rattle.desk.specs.Edits.{entries_in, with_entries, answered, result_of};
 
-use crate::{Desk, EditReply};
+use crate::{Desk, Reply};
 use answers::Verdict;
-use entries::{Entries, EntriesReply};
+use entries::Entries;
 use meaning::Refusal;
-
-// An accepted edit, and the desk that it made.
-fn accept(d: Desk) -> EditReply
-    ensures { result ≡ accepting d }
-{
-    EditReply {
-        verdict: Verdict::Accepted,
-        desk: d,
-    }
-}
-
-// A refused edit, and the unchanged desk.
-fn refuse(d: Desk, why: Refusal) -> EditReply
-    ensures { result ≡ refusing d why }
-{
-    EditReply {
-        verdict: Verdict::Refused(why),
-        desk: d,
-    }
-}
+use table::Stairs;
 
 // What the desk holds, without its stairs.
-pub fn entries_of(d: Desk) -> Entries
-    ensures { result ≡ entries_in d }
+pub fn entries_of(d: &Desk) -> Entries
+    ensures { result ≡ entries_in d.now }
 {
     let slots = d.slots;
     let streams = d.streams;
@@ -46,6 +26,18 @@ pub fn entries_of(d: Desk) -> Entries
         slots,
         nstreams: d.nstreams,
         streams,
+    }
+}
+
+// The stairs that an open desk stores, lent.
+pub fn stairs_of(d: &Desk) -> Stairs<'_>
+    requires { Fit d.now × (d.now.opened ≡ true) }
+    ensures { (result.cycle ≡ d.now.cycle) × (result.far.now ≡ far_in d.now) × (result.tot.now ≡ tot_in d.now) }
+{
+    Stairs {
+        cycle: d.cycle,
+        far: &d.far[..d.nstairs],
+        tot: &d.tot[..d.nstairs],
     }
 }
 
@@ -98,26 +90,36 @@ pub fn with_stairs(e: Entries) -> Desk
 }
 
 // What the desk answers to an edit of its entries that leaves the stairs as they are.
-pub fn keep_stairs(d: Desk, made: EntriesReply) -> EditReply
-    ensures { result ≡ answered d (with_entries d made.entries) made.verdict }
+#[tactic(auto, unfolding(crate::specs::Edits::answered))]
+pub fn keep_stairs(d: Desk, made: Entries, answer: Result<(), Refusal>) -> Reply<()>
+    ensures { result ≡ answered d (with_entries d made) answer }
 {
-    let verdict = made.verdict;
-    let e = made.entries;
-    match verdict {
-        Verdict::Accepted => accept(with_entries(d, e)),
-        Verdict::Refused(why) => refuse(d, why),
-    }
+    let desk = match answer {
+        Ok(_) => with_entries(d, made),
+        Err(_) => d,
+    };
+    Reply { answer, desk }
 }
 
 // What the desk answers to an edit of its entries behind which the stairs are built.
-pub fn build_stairs(d: Desk, made: EntriesReply) -> EditReply
-    requires { FitEntries made.entries × (made.verdict ≡ Accepted → made.entries.opened ≡ true) }
-    ensures { result ≡ answered d (desk_of (held_in made.entries)) made.verdict }
+#[tactic(auto, unfolding(crate::specs::Edits::answered))]
+pub fn build_stairs(d: Desk, made: Entries, answer: Result<(), Refusal>) -> Reply<()>
+    requires { FitEntries made × (answer ≡ Ok tt → made.opened ≡ true) }
+    ensures { result ≡ answered d (desk_of (held_in made)) answer }
 {
-    let verdict = made.verdict;
-    let e = made.entries;
+    let desk = match answer {
+        Ok(_) => with_stairs(made),
+        Err(_) => d,
+    };
+    Reply { answer, desk }
+}
+
+// The verdict of an edit of the entries as a result.
+pub fn answer(verdict: Verdict) -> Result<(), Refusal>
+    ensures { result ≡ result_of verdict }
+{
     match verdict {
-        Verdict::Accepted => accept(with_stairs(e)),
-        Verdict::Refused(why) => refuse(d, why),
+        Verdict::Accepted => Ok(()),
+        Verdict::Refused(why) => Err(why),
     }
 }

@@ -5,8 +5,8 @@ ghost use Rattle.meaning.specs.Calls.{open_port};
 ghost use Rattle.ranges.specs.Numbers.{port_of};
 ghost use Rattle.desk.specs.Desks.{held, desk_of, Fit, edit_reply};
 
-use crate::parts::{entries_of, keep_stairs};
-use crate::{Desk, EditReply};
+use crate::parts::{answer, entries_of, keep_stairs};
+use crate::{Desk, Reply};
 use meaning::{Slot, Stream};
 use ranges::PortNumbers;
 
@@ -40,9 +40,10 @@ pub fn bare() -> Desk
 }
 
 // The desk with its port opened; it holds no slot and no stream yet.
-pub fn open_port(d: Desk, p: PortNumbers) -> EditReply
+pub fn open_port(d: Desk, p: PortNumbers) -> Reply<()>
     requires { Fit d }
     ensures { (result ≡ edit_reply (edited (held d) (open_port (port_of p) (held d)))) × Fit result.desk }
 {
-    keep_stairs(d, entries::hold_port(entries_of(d), p))
+    let made = entries::hold_port(entries_of(&d), p);
+    keep_stairs(d, made.entries, answer(made.verdict))
 }

@@ -5,21 +5,23 @@ ghost use Rattle.meaning.specs.Calls.{add_slot, remove_slot};
 ghost use Rattle.ranges.specs.Numbers.{slot_of};
 ghost use Rattle.desk.specs.Desks.{held, Fit, edit_reply};
 
-use crate::parts::{build_stairs, entries_of};
-use crate::{Desk, EditReply};
+use crate::parts::{answer, build_stairs, entries_of};
+use crate::{Desk, Reply};
 
 // The desk with one slot more.
-pub fn add_slot(d: Desk, start: u64, end: u64) -> EditReply
+pub fn add_slot(d: Desk, start: u64, end: u64) -> Reply<()>
     requires { Fit d }
     ensures { (result ≡ edit_reply (edited (held d) (add_slot (slot_of start end) (held d)))) × Fit result.desk }
 {
-    build_stairs(d, entries::hold_slot(entries_of(d), start, end))
+    let made = entries::hold_slot(entries_of(&d), start, end);
+    build_stairs(d, made.entries, answer(made.verdict))
 }
 
 // The desk without the slot that has this start.
-pub fn remove_slot(d: Desk, start: u64) -> EditReply
+pub fn remove_slot(d: Desk, start: u64) -> Reply<()>
     requires { Fit d }
     ensures { (result ≡ edit_reply (edited (held d) (remove_slot start (held d)))) × Fit result.desk }
 {
-    build_stairs(d, entries::drop_slot(entries_of(d), start))
+    let made = entries::drop_slot(entries_of(&d), start);
+    build_stairs(d, made.entries, answer(made.verdict))
 }

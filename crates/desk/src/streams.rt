@@ -5,22 +5,24 @@ ghost use Rattle.meaning.specs.Calls.{add_stream, remove_stream};
 ghost use Rattle.ranges.specs.Numbers.{stream_of};
 ghost use Rattle.desk.specs.Desks.{held, Fit, edit_reply};
 
-use crate::parts::{entries_of, keep_stairs};
-use crate::{Desk, EditReply};
+use crate::parts::{answer, entries_of, keep_stairs};
+use crate::{Desk, Reply};
 use ranges::StreamNumbers;
 
 // The desk with one stream more.
-pub fn add_stream(d: Desk, j: StreamNumbers) -> EditReply
+pub fn add_stream(d: Desk, j: StreamNumbers) -> Reply<()>
     requires { Fit d }
     ensures { (result ≡ edit_reply (edited (held d) (add_stream (stream_of j) (held d)))) × Fit result.desk }
 {
-    keep_stairs(d, entries::hold_stream(entries_of(d), j))
+    let made = entries::hold_stream(entries_of(&d), j);
+    keep_stairs(d, made.entries, answer(made.verdict))
 }
 
 // The desk without the stream that has this id.
-pub fn remove_stream(d: Desk, id: u64) -> EditReply
+pub fn remove_stream(d: Desk, id: u64) -> Reply<()>
     requires { Fit d }
     ensures { (result ≡ edit_reply (edited (held d) (remove_stream id (held d)))) × Fit result.desk }
 {
-    keep_stairs(d, entries::drop_stream(entries_of(d), id))
+    let made = entries::drop_stream(entries_of(&d), id);
+    keep_stairs(d, made.entries, answer(made.verdict))
 }

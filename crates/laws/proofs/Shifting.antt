@@ -1,4 +1,4 @@
--- Rows that a loop walks: searched from the front, opened for one more, closed over one less.
+-- Rows that hold one more or one less: a part of the row is turned by one place, and one place is stored.
 -- Assumes nothing.
 use mathlib.Core.Path.{◌≡◌, refl, sym, ap, ◌∙◌}
 use mathlib.Core.Bool.{Bool, true, false, cond, ◌||◌, true≢false}
@@ -11,93 +11,15 @@ use lib.ListN.{length, get_or, take, drop, set, replicate, length-append, length
 use lib.ListN.{drop_of_length-le, get_or-append}
 use lib.Seq.{length-take-le, take-suc, split_at, drop-cons, take-append-le, drop-append-le, drop-append-add}
 use lib.Seq.{take-take}
-use lib.Seq.{set_at, get_or-take, get_or-drop, get_or-append-add}
+use lib.Seq.{set_at, take_at, drop_at, drop-drop}
 use lib.Dec.{ltb}
+use borrow.Rule.Slice.PartMut.{put_mid, mid_of}
+use Rattle.std.proofs.lemmas.Slice.{between_is}
 use Rattle.laws.specs.Lists.{any, insert_by, place_by, without, filled}
 use Rattle.laws.proofs.Inserting.{length_insert_by}
 use Rattle.laws.proofs.Rows.{filled_length}
 
 module _ {A : Type 0} where
-  -- ---- a search from the front
-
-  -- the search of the first n has come to place i: none before it passes the test
-  abbrev pub Searched : (A → Bool) → List A → ℕ → ℕ → Type 0
-  Searched p l n i = (i ≤ n) × (any p (take i l) ≡ false)
-
-  -- those that do not pass are passed over
-  any_past : (p : A → Bool) (xs ys : List A) → any p xs ≡ false → any p (xs ++ ys) ≡ any p ys
-  unfolding any
-  any_past p [] ys e = refl
-  any_past p (x ∷ xs) ys e = go (any_past p xs ys) (p x) e
-    where
-      go : (any p xs ≡ false → any p (xs ++ ys) ≡ any p ys) → (b : Bool) → (b || any p xs) ≡ false
-          → (b || any p (xs ++ ys)) ≡ any p ys
-      go ih true e = absurd (true≢false e)
-      go ih false e = ih e
-
-  place_past : (p : A → Bool) (xs ys : List A) → any p xs ≡ false → place_by p (xs ++ ys) ≡ length xs + place_by p ys
-  unfolding any place_by
-  place_past p [] ys e = sym (zero-add (place_by p ys))
-  place_past p (x ∷ xs) ys e = go (place_past p xs ys) (p x) e
-    where
-      go : (any p xs ≡ false → place_by p (xs ++ ys) ≡ length xs + place_by p ys) → (b : Bool) → (b || any p xs) ≡ false
-          → cond b 0 (suc (place_by p (xs ++ ys))) ≡ suc (length xs) + place_by p ys
-      go ih true e = absurd (true≢false e)
-      go ih false e = omega (arith, ih e)
-
-  -- the first n, cut around place i
-  cut_around : (l : List A) (n i : ℕ) (d : A) → i < n → n ≤ length l
-      → take n l ≡ take i l ++ get_or l i d ∷ drop (suc i) (take n l)
-  cut_around l n i d h k =
-      let e : i < length (take n l) = omega (arith, length-take-le n l k) in
-      split_at (take n l) i d e ∙ rw (take-take i n l (omega arith), get_or-take n l i d h)
-
-  module _ (p : A → Bool) (l : List A) (n : ℕ) where
-    pub search_start : Searched p l n 0
-    unfolding any
-    search_start = (zero-le, refl)
-
-    module _ (i : ℕ) (d : A) (h : i < n) (k : n ≤ length l) (s : Searched p l n i) where
-      -- a turn: the one at place i does not pass
-      pub search_next : p (get_or l i d) ≡ false → Searched p l n (i + 1)
-      unfolding any
-      search_next e = (
-        omega arith,
-        rw (add-one i, take-suc l i d (omega arith), any_past p (take i l) (get_or l i d ∷ []) s.1, e),
-      )
-
-      -- the one at place i passes
-      pub place_found : p (get_or l i d) ≡ true → (i ≡ place_by p (take n l)) × (i ≤ n)
-      unfolding place_by
-      place_found e = (
-        sym
-            (ap (place_by p) (cut_around l n i d h k)
-            ∙ place_past p (take i l) _ s.1
-            ∙ rw e (omega (arith, length-take-le i l (omega arith)))),
-        s.0,
-      )
-
-      pub any_found : p (get_or l i d) ≡ true → true ≡ any p (take n l)
-      unfolding any
-      any_found e = sym (ap (any p) (cut_around l n i d h k) ∙ any_past p (take i l) _ s.1 ∙ rw e)
-
-    -- none passes
-    module _ (i : ℕ) (h : n ≤ i) (s : Searched p l n i) where
-      pub any_none : false ≡ any p (take n l)
-      any_none = let e : n ≡ i = omega arith in rw e (sym s.1)
-
-      pub place_none : n ≤ length l → (i ≡ place_by p (take n l)) × (i ≤ n)
-      unfolding place_by
-      place_none k =
-          let e : n ≡ i = omega arith in (
-            rw e
-                (sym
-                (ap (place_by p) (sym (append-nil (take i l)))
-                ∙ place_past p (take i l) [] s.1
-                ∙ omega (arith, length-take-le i l (omega arith)))),
-            s.0,
-          )
-
   -- ---- rows that hold their first n, and z in the places left
 
   drop_replicate : (k n : ℕ) (z : A) → drop k (replicate n z) ≡ replicate (n - k) z
@@ -145,63 +67,40 @@ module _ {A : Type 0} where
           step ih true = refl
           step ih false = ap (λ (r : List A). y ∷ r) ih
 
-  -- l with each place from i + 1 to n holding what stood one before
-  pub gap : List A → ℕ → ℕ → List A
-  gap l n i = take (suc i) l ++ (drop i (take n l) ++ drop (suc n) l)
+  -- the part of l from place p to place n, with the one at place n last
+  part_more : (l : List A) (n p : ℕ) (d : A) → p ≤ n → n < length l
+      → take (n + 1 - p) (drop p l) ≡ drop p (take n l) ++ (get_or (drop p l) (n - p) d ∷ [])
+  part_more l n p d h k =
+      let e : n + 1 - p ≡ suc (n - p) = omega arith in
+      let m : n - p < length (drop p l) = omega (arith, length-drop p l) in
+      rw (e, take-suc (drop p l) (n - p) d m) (rw (between_is l p n))
 
-  -- the loop that makes room at place p of l has come down to place i
-  abbrev pub Opened : List A → ℕ → ℕ → List A → ℕ → Type 0
-  Opened l n p row i = (row ≡ gap l n i) × (p ≤ i) × (i ≤ n)
+  -- turned by one to the right, with a then stored at its front, it makes room for a before the one at place p
+  pub turned_right : (l : List A) (n p : ℕ) (a : A) (ys : List A) → p ≤ n → n < length l
+      → (let part = mid_of p (n + 1 - p) l in ys ≡ drop (length part - 1) part ++ take (length part - 1) part)
+      → set (put_mid p (n + 1 - p) l ys) p a ≡ take p l ++ a ∷ (drop p (take n l) ++ drop (suc n) l)
+  turned_right l n p a ys h k e =
+      let f = drop p (take n l) in
+      let d = get_or (drop p l) (n - p) a in
+      let part : take (n + 1 - p) (drop p l) ≡ f ++ (d ∷ []) = part_more l n p a h k in
+      let few : length f ≡ n - p = omega (arith, length-drop p (take n l), length-take-le n l (omega arith)) in
+      let last : length (f ++ (d ∷ [])) - 1 ≡ n - p = omega (arith, length-append f (d ∷ [])) in
+      let turned : ys ≡ d ∷ f =
+      e ∙ rw part (rw (last, drop_at f (d ∷ []) (n - p) few, take_at f (d ∷ []) (n - p) few)) in
+      let to : p + (n + 1 - p) ≡ suc n = omega arith in
+      let rest : drop (n + 1 - p) (drop p l) ≡ drop (suc n) l = drop-drop (n + 1 - p) p l ∙ ap (λ (j : ℕ). drop j l) to in
+      rw (turned, rest) (set_at (take p l) d (f ++ drop (suc n) l) a p (length-take-le p l (omega arith)))
 
-  gap_split : (l : List A) (n i : ℕ) (d : A) → i < length l
-      → gap l n i ≡ take i l ++ get_or l i d ∷ (drop i (take n l) ++ drop (suc n) l)
-  unfolding gap
-  gap_split l n i d h = rw (take-suc l i d h, append_assoc)
-
-  gap_set : (l : List A) (n i : ℕ) (x : A) → i < length l
-      → set (gap l n i) i x ≡ take i l ++ x ∷ (drop i (take n l) ++ drop (suc n) l)
-  gap_set l n i x h =
-      rw (gap_split l n i x h) (set_at (take i l) (get_or l i x) _ x i (length-take-le i l (omega arith)))
-
-  gap_read : (l : List A) (n i : ℕ) (d : A) → suc i < length l → get_or (gap l n (suc i)) i d ≡ get_or l i d
-  unfolding gap
-  gap_read l n i d h =
-      let e : i < length (take (suc (suc i)) l) = omega (arith, length-take-le (suc (suc i)) l h) in
-      get_or-append (take (suc (suc i)) l) (drop (suc i) (take n l) ++ drop (suc n) l) d i e
-      ∙ get_or-take (suc (suc i)) l i d (omega arith)
-
-  gap_step : (l : List A) (n i : ℕ) (d : A) → i < n → n < length l
-      → set (gap l n (suc i)) (suc i) (get_or (gap l n (suc i)) i d) ≡ gap l n i
-  unfolding gap
-  gap_step l n i d h k =
-      let e : i < length (take n l) = omega (arith, length-take-le n l (omega arith)) in
-      rw (gap_read l n i d (omega arith), gap_set l n (suc i) (get_or l i d) (omega arith))
-      (rw (drop-cons (take n l) i d e, get_or-take n l i d h))
-
-  pub open_start : (l : List A) (n p : ℕ) → p ≤ n → n < length l → Opened l n p l n
-  unfolding gap
-  open_start l n p h k =
-      let e : length (take n l) ≤ n = omega (arith, length-take-le n l (omega arith)) in
-      (rw (drop_of_length-le (take n l) e) (sym (take-append-drop (suc n) l)), h, le_refl n)
-
-  -- a turn
-  pub open_next : (l : List A) (n p : ℕ) (row : List A) (i : ℕ) (d : A) → p < i → n < length l → Opened l n p row i
-      → Opened l n p (set row i (get_or row (i - 1) d)) (i - 1)
-  open_next l n p row zero d h k (e, lo, hi) = absurd (omega arith)
-  open_next l n p row (suc i) d h k (e, lo, hi) =
-      (rw (sub-one, e) (gap_step l n i d hi k), omega arith, omega arith)
-
-  -- the store at place p that ends it
-  pub open_end : (size : ℕ) (z : A) (key : A → ℕ) (a : A) (l : List A) (n p : ℕ) (row : List A) (i : ℕ) → n < size
-      → l ≡ filled size z (take n l) → p ≡ place_by (λ x. ltb (key a) (key x)) (take n l) → i ≤ p → Opened l n p row i
-      → set row p a ≡ filled size z (insert_by key a (take n l))
+  -- one more among those that a row holds, by rising key
+  pub one_more : (size : ℕ) (z : A) (key : A → ℕ) (a : A) (l : List A) (n p : ℕ) → n < size
+      → l ≡ filled size z (take n l) → p ≡ place_by (λ x. ltb (key a) (key x)) (take n l) → p ≤ n
+      → take p l ++ a ∷ (drop p (take n l) ++ drop (suc n) l) ≡ filled size z (insert_by key a (take n l))
   unfolding filled
-  open_end size z key a l n p row i h free at stop (e, lo, hi) =
-      let here : i ≡ p = omega arith in
+  one_more size z key a l n p h free at lo =
       let long = filled_long size z l n free (omega arith) in
       let held = length-take-le n l (omega arith) in
       let count : suc n ≡ length (insert_by key a (take n l)) = omega (arith, length_insert_by key a (take n l)) in
-      rw (e, here, gap_set l n p a (omega arith), free_rest size z l n (suc n) free (omega arith), count)
+      rw (free_rest size z l n (suc n) free (omega arith), count)
       (rw (← take-take p n l (omega arith), insert_at_place key a (take n l) p at) (simp append_assoc))
 
   -- ---- one less: from place p up to the last of the first n, what stands behind place i goes to place i
@@ -210,75 +109,34 @@ module _ {A : Type 0} where
   unfolding without
   length_without k xs h = simp (length-append, length-take, length-drop) (omega arith)
 
-  -- the first i + 1 of l without the one at place p, and l from i on
-  pub seam : List A → ℕ → ℕ → List A
-  seam l p i = without p (take (suc i) l) ++ drop i l
-
-  -- the loop that closes l over its place p has come up to place i
-  abbrev pub Closed : List A → ℕ → ℕ → List A → ℕ → Type 0
-  Closed l n p row i = (row ≡ seam l p i) × (p ≤ i) × (i ≤ n - 1)
-
-  seam_front : (l : List A) (p i : ℕ) → p ≤ i → i < length l → length (without p (take (suc i) l)) ≡ i
-  seam_front l p i h k =
-      let e = length-take-le (suc i) l k in
-      omega (arith, length_without p (take (suc i) l) (omega arith))
-
-  seam_set : (l : List A) (p i : ℕ) (x : A) → p ≤ i → i < length l
-      → set (seam l p i) i x ≡ without p (take (suc i) l) ++ x ∷ drop (suc i) l
-  unfolding seam
-  seam_set l p i x h k = rw (drop-cons l i x k, set_at _ _ _ _ i (seam_front l p i h k))
-
-  seam_read : (l : List A) (p i : ℕ) (d : A) → p ≤ i → i < length l → get_or (seam l p i) (i + 1) d ≡ get_or l (i + 1) d
-  unfolding seam
-  seam_read l p i d h k =
-      ap (λ (j : ℕ). get_or (seam l p i) (j + 1) d) (sym (seam_front l p i h k))
-      ∙ get_or-append-add (without p (take (suc i) l)) (drop i l) 1 d
-      ∙ get_or-drop i l 1 d
-
-  without_more : (l : List A) (p i : ℕ) (d : A) → p ≤ i → suc i < length l
-      → without p (take (suc (suc i)) l) ≡ without p (take (suc i) l) ++ (get_or l (suc i) d ∷ [])
+  -- the part of l from place p to the last of the first n, turned by one to the left, and z then stored at its back
+  pub turned_left : (l : List A) (n p : ℕ) (z : A) (ys : List A) → p < n → n ≤ length l
+      → (let part = mid_of p (n - p) l in ys ≡ drop 1 part ++ take 1 part)
+      → set (put_mid p (n - p) l ys) (n - 1) z ≡ without p (take n l) ++ z ∷ drop n l
   unfolding without
-  without_more l p i d h k =
-      let e = length-take-le (suc i) l (omega arith) in
-      rw (
-        take-suc l (suc i) d k,
-        drop-append-le (suc p) (take (suc i) l) _ (omega arith),
-        take-append-le p (take (suc i) l) _ (omega arith),
-      ) (simp append_assoc)
+  turned_left l n p z ys h k e =
+      let g = drop (suc p) (take n l) in
+      let held = length-take-le n l k in
+      let front : p < length (take n l) = omega arith in
+      let d = get_or (take n l) p z in
+      let part : take (n - p) (drop p l) ≡ d ∷ g = between_is l p n ∙ drop-cons (take n l) p z front in
+      let turned : ys ≡ g ++ (d ∷ []) = e ∙ rw part in
+      let to : p + (n - p) ≡ n = omega arith in
+      let rest : drop (n - p) (drop p l) ≡ drop n l = drop-drop (n - p) p l ∙ ap (λ (j : ℕ). drop j l) to in
+      let lead : take p l ++ ((g ++ (d ∷ [])) ++ drop n l) ≡ (take p l ++ g) ++ d ∷ drop n l = simp append_assoc in
+      let few : length (take p l ++ g) ≡ n - 1 =
+      omega (arith, length-append (take p l) g, length-take-le p l (omega arith), length-drop (suc p) (take n l)) in
+      rw (turned, rest, lead, set_at (take p l ++ g) d (drop n l) z (n - 1) few, take-take p n l (omega arith))
 
-  seam_step : (l : List A) (p i : ℕ) (d : A) → p ≤ i → i + 1 < length l
-      → set (seam l p i) i (get_or (seam l p i) (i + 1) d) ≡ seam l p (i + 1)
-  unfolding seam
-  seam_step l p i d h k =
-      rw (seam_read l p i d h (omega arith), seam_set l p i (get_or l (i + 1) d) h (omega arith), add-one i)
-      (rw (without_more l p i d h (omega arith)) (simp append_assoc))
-
-  pub close_start : (l : List A) (n p : ℕ) → p < n → n ≤ length l → Closed l n p l p
-  unfolding seam without
-  close_start l n p h k =
-      let e : length (take (suc p) l) ≤ suc p = omega (arith, length-take-le (suc p) l (omega arith)) in (
-        rw (drop_of_length-le (take (suc p) l) e, append-nil, take-take p (suc p) l (omega arith))
-            (sym (take-append-drop p l)),
-        le_refl p,
-        omega arith,
-      )
-
-  -- a turn
-  pub close_next : (l : List A) (n p : ℕ) (row : List A) (i : ℕ) (d : A) → i < n - 1 → n ≤ length l
-      → Closed l n p row i → Closed l n p (set row i (get_or row (i + 1) d)) (i + 1)
-  close_next l n p row i d h k (e, lo, hi) = (rw e (seam_step l p i d lo (omega arith)), omega arith, omega arith)
-
-  -- the store at the last place that ends it
-  pub close_end : (size : ℕ) (z : A) (l : List A) (n p : ℕ) (row : List A) (i : ℕ) → p < n → n ≤ size
-      → l ≡ filled size z (take n l) → n - 1 ≤ i → Closed l n p row i
-      → set row (n - 1) z ≡ filled size z (without p (take n l))
+  -- one less among those that a row holds
+  pub one_less : (size : ℕ) (z : A) (l : List A) (n p : ℕ) → p < n → n ≤ size
+      → l ≡ filled size z (take n l)
+      → without p (take n l) ++ z ∷ drop n l ≡ filled size z (without p (take n l))
   unfolding filled
-  close_end size z l zero p row i h k free stop c = absurd (omega arith)
-  close_end size z l (suc n) p row i h k free stop (e, lo, hi) =
-      let here : i ≡ suc n - 1 = omega arith in
-      let long = filled_long size z l (suc n) free k in
-      let count : suc (size - suc n) ≡ size - length (without p (take (suc n) l)) =
-      omega (arith, seam_front l p n (omega arith) (omega arith)) in
-      rw (e, here, sub-one, seam_set l p n z (omega arith) (omega arith))
-      (rw (free_rest size z l (suc n) (suc n) free (le_refl (suc n)))
-      (ap (λ (j : ℕ). without p (take (suc n) l) ++ replicate j z) count))
+  one_less size z l n p h k free =
+      let long = filled_long size z l n free k in
+      let held = length-take-le n l (omega arith) in
+      let count : suc (size - n) ≡ size - length (without p (take n l)) =
+      omega (arith, length_without p (take n l) (omega arith)) in
+      rw (free_rest size z l n n free (le_refl n))
+      (ap (λ (j : ℕ). without p (take n l) ++ replicate j z) count)

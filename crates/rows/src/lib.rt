@@ -1,43 +1,60 @@
 // Rows of slots by rising start and of streams by rising id, with zero in the free places behind them.
 #![tactic(auto)]
 
-ghost use Rattle.std.specs.Prelude.{◌≡◌, ◌<◌, ◌≤◌, ltb, eqb, take};
-ghost use Rattle.laws.specs.Lists.{any, place_by, without};
-ghost use Rattle.meaning.specs.Calls.{overlaps, with_slot, with_stream};
-ghost use Rattle.rows.specs.Rows.{slot_row, stream_row};
+ghost use Rattle.std.specs.Prelude.{◌≡◌, ◌<◌, ◌≤◌, ℕ, ltb, eqb, length, take, position};
+ghost use Rattle.std.specs.List.{list_any};
+ghost use Rattle.laws.specs.Lists.{insert_by, without, filled};
+ghost use Rattle.meaning.specs.Calls.{overlaps};
+ghost use Rattle.rows.specs.Rows.{no_slot, no_stream};
 
 use meaning::{Slot, Stream};
 
-// The place of the slot with this start, n where none has it.
-pub fn slot_place(slots: [Slot; 32], n: usize, start: u64) -> usize
-    requires { n ≤ 32 }
-    ensures { (result ≡ place_by (λ x. eqb x.start start) (take n slots)) × (result ≤ n) }
-{
-    let mut i: usize = 0;
-    while i < n {
-        let x = slots[i];
-        if x.start as u64 == start {
-            return i;
-        }
-        i += 1;
-    }
-    i
+// What a row holds: the number that it stands in the row by, and what a free place holds.
+pub trait Keyed: Copy {
+    ghost key_of: { Self → ℕ };
+
+    ghost free_place: { Self };
+
+    fn key(self) -> u32
+        ensures { result ≡ key_of self };
+
+    fn free() -> Self
+        ensures { result ≡ free_place };
 }
 
-// The place of the stream with this id, n where none has it.
-pub fn stream_place(streams: [Stream; 64], n: usize, id: u64) -> usize
-    requires { n ≤ 64 }
-    ensures { (result ≡ place_by (λ x. eqb x.id id) (take n streams)) × (result ≤ n) }
-{
-    let mut k: usize = 0;
-    while k < n {
-        let x = streams[k];
-        if x.id as u64 == id {
-            return k;
-        }
-        k += 1;
+impl Keyed for Slot {
+    ghost key_of = { λ s. s.start };
+
+    ghost free_place = { no_slot };
+
+    fn key(self) -> u32 {
+        self.start
     }
-    k
+
+    fn free() -> Slot {
+        Slot::default()
+    }
+}
+
+impl Keyed for Stream {
+    ghost key_of = { λ j. j.id };
+
+    ghost free_place = { no_stream };
+
+    fn key(self) -> u32 {
+        self.id
+    }
+
+    fn free() -> Stream {
+        Stream::default()
+    }
+}
+
+// The place of the one held with this key.
+pub fn place<T: Keyed>(held: &[T], key: u64) -> Option<usize>
+    ensures { result ≡ position (λ x. eqb (T.key_of x) key) held.now }
+{
+    held.iter().position(|x| u64::from(x.key()) == key)
 }
 
 // Whether two slots overlap; they may touch.
@@ -48,130 +65,35 @@ fn overlap(s: Slot, x: Slot) -> bool
 }
 
 // Whether some slot held overlaps s.
-pub fn overlaps_any(slots: [Slot; 32], n: usize, s: Slot) -> bool
-    requires { n ≤ 32 }
-    ensures { result ≡ any (overlaps s) (take n slots) }
+pub fn overlaps_any(slots: &[Slot], s: Slot) -> bool
+    ensures { result ≡ list_any (overlaps s) slots.now }
 {
-    let mut i: usize = 0;
-    while i < n {
-        let x = slots[i];
-        if overlap(s, x) {
-            return true;
-        }
-        i += 1;
-    }
-    false
+    slots.iter().any(|x| overlap(s, *x))
 }
 
-// The place of a new slot with this start: before the first slot that starts later.
-fn new_slot_place(slots: [Slot; 32], n: usize, start: u32) -> usize
-    requires { n ≤ 32 }
-    ensures { (result ≡ place_by (λ x. ltb start x.start) (take n slots)) × (result ≤ n) }
+// The place of the first one held with a larger key.
+fn first_larger<T: Keyed>(held: &[T], key: u32) -> Option<usize>
+    ensures { result ≡ position (λ x. ltb key (T.key_of x)) held.now }
 {
-    let mut p: usize = 0;
-    while p < n {
-        let x = slots[p];
-        if start < x.start {
-            return p;
-        }
-        p += 1;
-    }
-    p
+    held.iter().position(|x| key < x.key())
 }
 
-// The place of a new stream with this id: before the first stream with a larger id.
-fn new_stream_place(streams: [Stream; 64], n: usize, id: u32) -> usize
-    requires { n ≤ 64 }
-    ensures { (result ≡ place_by (λ x. ltb id x.id) (take n streams)) × (result ≤ n) }
+// One more among the first n, by rising key: it stands before the first one with a larger key, and those move one place on.
+pub fn insert<T: Keyed>(row: &mut [T], n: usize, x: T)
+    requires { (n < length row.old) × (row.old ≡ filled (length row.old) T.free_place (take n row.old)) }
+    ensures { row.new ≡ filled (length row.old) T.free_place (insert_by T.key_of x (take n row.old)) }
 {
-    let mut p: usize = 0;
-    while p < n {
-        let x = streams[p];
-        if id < x.id {
-            return p;
-        }
-        p += 1;
-    }
-    p
+    let p = first_larger(&row[..n], x.key()).unwrap_or(n);
+    row[p..=n].rotate_right(1);
+    row[p] = x;
 }
 
-// The slots with s, by rising start: from its place on each slot moves one place on.
-pub fn insert_slot(slots: [Slot; 32], n: usize, s: Slot) -> [Slot; 32]
-    requires { (n < 32) × (slots ≡ slot_row (take n slots)) }
-    ensures { result ≡ slot_row (with_slot s (take n slots)) }
+// The first n without the one at place p: each one behind it moves one place back, and the last place held is freed.
+pub fn remove<T: Keyed>(row: &mut [T], n: usize, p: usize)
+    requires { (p < n) × (n ≤ length row.old)
+        × (row.old ≡ filled (length row.old) T.free_place (take n row.old)) }
+    ensures { row.new ≡ filled (length row.old) T.free_place (without p (take n row.old)) }
 {
-    let p = new_slot_place(slots, n, s.start);
-    let mut row = slots;
-    let mut i: usize = n;
-    while p < i {
-        let before = i - 1;
-        let x = row[before];
-        row[i] = x;
-        i = before;
-    }
-    row[p] = s;
-    row
-}
-
-// The streams with j, by rising id: from its place on each stream moves one place on.
-pub fn insert_stream(streams: [Stream; 64], n: usize, j: Stream) -> [Stream; 64]
-    requires { (n < 64) × (streams ≡ stream_row (take n streams)) }
-    ensures { result ≡ stream_row (with_stream j (take n streams)) }
-{
-    let p = new_stream_place(streams, n, j.id);
-    let mut row = streams;
-    let mut k: usize = n;
-    while p < k {
-        let before = k - 1;
-        let x = row[before];
-        row[k] = x;
-        k = before;
-    }
-    row[p] = j;
-    row
-}
-
-// The slots without the one at place p: each slot behind it moves one place back, and the last place held is freed.
-pub fn remove_slot(slots: [Slot; 32], n: usize, p: usize) -> [Slot; 32]
-    requires { (p < n) × (n ≤ 32) × (slots ≡ slot_row (take n slots)) }
-    ensures { result ≡ slot_row (without p (take n slots)) }
-{
-    let last = n - 1;
-    let mut row = slots;
-    let mut i: usize = p;
-    while i < last {
-        let behind = i + 1;
-        let x = row[behind];
-        row[i] = x;
-        i = behind;
-    }
-    let free = Slot { start: 0, end: 0 };
-    row[last] = free;
-    row
-}
-
-// The streams without the one at place p: each stream behind it moves one place back, and the last place held is freed.
-pub fn remove_stream(streams: [Stream; 64], n: usize, p: usize) -> [Stream; 64]
-    requires { (p < n) × (n ≤ 64) × (streams ≡ stream_row (take n streams)) }
-    ensures { result ≡ stream_row (without p (take n streams)) }
-{
-    let last = n - 1;
-    let mut row = streams;
-    let mut k: usize = p;
-    while k < last {
-        let behind = k + 1;
-        let x = row[behind];
-        row[k] = x;
-        k = behind;
-    }
-    let free = Stream {
-        id: 0,
-        priority: 0,
-        octets: 0,
-        period: 0,
-        jitter: 0,
-        deadline: 0,
-    };
-    row[last] = free;
-    row
+    row[p..n].rotate_left(1);
+    row[n - 1] = T::free();
 }
