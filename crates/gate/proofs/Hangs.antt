@@ -1,50 +1,37 @@
--- The slots in the first n places of a row: where they lie, and where those that hang together stop.
+-- Where the slots of a chain lie, and where those that hang together stop.
 -- Assumes nothing.
 use mathlib.Core.Path.{◌≡◌, refl, sym, ap, ◌∙◌}
 use mathlib.Core.Bool.{Bool, true, false, cond}
 use mathlib.Core.List.{List, [], ◌∷◌}
-use Prim.Native.Nat.{ℕ, zero, suc, ◌+◌, ◌-◌, ◌≤◌, ◌<◌}
-use native.Mathlib.Nat.{le_trans}
+use Prim.Native.Nat.{ℕ, zero, suc, ◌+◌, ◌≤◌, ◌<◌}
 use native.Mathlib.Numerals.{add-one}
 use native.Mathlib.Omega.{arith}
-use lib.ListN.{length, get_or, take, drop, set}
-use lib.Seq.{length-take-le, get_or-take}
+use lib.ListN.{length, get_or, take, drop, set, length-set, drop_of_length-le}
+use lib.Seq.{length-take-le, drop-cons, get_or-take, get_or-set_same, take-set-lt, drop-set-lt}
 use lib.Dec.{leb}
-use Rattle.meaning.specs.declared.Gate.{Gate}
+use borrow.Author.Tests.{le-leb, lt-leb}
 use Rattle.meaning.specs.declared.Slot.{Slot}
 use Rattle.meaning.specs.Promises.{Chain}
 use Rattle.meaning.proofs.Chains.{hang_end, chain_le, hang_ge}
-use Rattle.meaning.proofs.ChainCells.{reach_of}
 use Rattle.gate.specs.Walks.{hang_ends}
-use Rattle.gate.proofs.Places.{rest_cons, rest_none, rest_put}
 
--- the slot at place i; past the row's end, an empty one
+-- the slot at place i; past the list's end, an empty one
 abbrev pub no_slot : Slot
 no_slot = record { start = 0; end = 0 }
 
 abbrev pub slot_at : List Slot → ℕ → Slot
-slot_at l i = get_or l i no_slot
-
--- the first n places of the row hold slots in a chain, one at least
-pub record Held (g : Gate) (l : List Slot) (n : ℕ) : Type 0 where
-  pub some : 1 ≤ n
-  pub fits : n ≤ length l
-  pub chain : Chain 0 (take n l) g.cycle
-
-pub hold : {g : Gate} {l : List Slot} {n : ℕ} → 1 ≤ n → n ≤ 32 → length l ≡ 32 → Chain 0 (take n l) g.cycle
-    → Held g l n
-hold some few long ok = record { some = some; fits = omega arith; chain = ok }
+slot_at ss i = get_or ss i no_slot
 
 -- ---- where slots lie
 
 -- a slot of a chain, and the chain behind it
-chain_at : (lo : ℕ) (ss : List Slot) (hi i : ℕ) → Chain lo ss hi → i < length ss
+pub chain_at : (lo : ℕ) (ss : List Slot) (hi i : ℕ) → Chain lo ss hi → i < length ss
     → ((slot_at ss i).start < (slot_at ss i).end) × Chain (slot_at ss i).end (drop (suc i) ss) hi
 chain_at lo [] hi i ok h = absurd (omega arith)
 chain_at lo (s ∷ ss) hi zero ok h = (ok.1, ok.2)
 chain_at lo (s ∷ ss) hi (suc i) ok h = chain_at s.end ss hi i ok.2 (omega arith)
 
-hang_le : (k e : ℕ) (ss : List Slot) (hi : ℕ) → Chain e ss hi → hang_end k e ss ≤ hi
+pub hang_le : (k e : ℕ) (ss : List Slot) (hi : ℕ) → Chain e ss hi → hang_end k e ss ≤ hi
 unfolding hang_end
 hang_le k e [] hi ok = ok
 hang_le k e (y ∷ ys) hi ok =
@@ -54,82 +41,104 @@ hang_le k e (y ∷ ys) hi ok =
     go true a b = a
     go false a b = b
 
-module _ {g : Gate} {l : List Slot} {n : ℕ} (held : Held g l n) (i : ℕ) (h : i < n) where
-  -- slot i lies in the cycle, and so do those that hang together with it
-  hung_in : (k : ℕ)
-      → ((slot_at l i).start < (slot_at l i).end)
-      × ((slot_at l i).end ≤ hang_end k (slot_at l i).end (drop (i + 1) (take n l)))
-      × (hang_end k (slot_at l i).end (drop (i + 1) (take n l)) ≤ g.cycle)
-  hung_in k =
-      let e : i < length (take n l) = omega (arith, length-take-le n l held.fits) in
-      let (a, b) = chain_at 0 (take n l) g.cycle i held.chain e in
-      rw (add-one i, ← get_or-take n l i no_slot h) (a, hang_ge k _ _ g.cycle b, hang_le k _ _ g.cycle b)
+-- slot i lies before hi, and so do those that hang together with it
+pub record Within (k hi : ℕ) (ss : List Slot) (i : ℕ) : Type 0 where
+  pub some : (slot_at ss i).start < (slot_at ss i).end
+  pub near : (slot_at ss i).end ≤ hang_end k (slot_at ss i).end (drop (i + 1) ss)
+  pub far : hang_end k (slot_at ss i).end (drop (i + 1) ss) ≤ hi
 
-  pub slot_in : ((slot_at l i).start < (slot_at l i).end) × ((slot_at l i).end ≤ g.cycle)
-  slot_in = let (a, b, e) = hung_in 0 in (a, le_trans b e)
+pub within : (k lo hi : ℕ) (ss : List Slot) → Chain lo ss hi → (i : ℕ) → i < length ss → Within k hi ss i
+within k lo hi ss ok i h =
+    let (a, b) = chain_at lo ss hi i ok h in
+    let behind : Chain (slot_at ss i).end (drop (i + 1) ss) hi = rw (add-one i) b in
+    record { some = a; near = hang_ge k _ _ hi behind; far = hang_le k _ _ hi behind }
 
 -- ---- where they stop, filled in from the last slot back
 
+-- the slots from place i on, as a head and those behind it
+pub slots_from : (ss : List Slot) (i : ℕ) → i < length ss → drop i ss ≡ slot_at ss i ∷ drop (i + 1) ss
+slots_from ss i h = rw (add-one i) (drop-cons ss i no_slot h)
+
+pub none_from : (ss : List Slot) (i : ℕ) → length ss ≤ i → drop i ss ≡ []
+none_from ss i h = drop_of_length-le ss h
+
 -- of the slots from place i on, it stands in the row a
-abbrev pub Hangs : ℕ → List Slot → ℕ → ℕ → List ℕ → Type 0
-Hangs k l n i a = drop i (take n a) ≡ hang_ends k (drop i (take n l))
+pub record Hangs (k : ℕ) (ss : List Slot) (i : ℕ) (a : List ℕ) : Type 0 where
+  pub long : length ss ≤ length a
+  pub stand : drop i (take (length ss) a) ≡ hang_ends k (drop i ss)
 
-module _ {g : Gate} {l : List Slot} {n : ℕ} (held : Held g l n) (k : ℕ) (a : List ℕ) (ha : n ≤ length a) where
-  -- the last slot's own end
-  pub hangs_start : Hangs k l n (n - 1) (set a (n - 1) (slot_at l (n - 1)).end)
-  unfolding hang_ends hang_end
-  hangs_start =
-      let j : n - 1 < n = omega (arith, held.some) in
-      rw (rest_put a n (n - 1) (slot_at l (n - 1)).end j ha, rest_none a n (n - 1 + 1) (omega arith) ha)
-      (rw (rest_cons l n (n - 1) no_slot j held.fits, rest_none l n (n - 1 + 1) (omega arith) held.fits))
+pub hangs_none : (k : ℕ) (ss : List Slot) (a : List ℕ) → length ss ≤ length a → Hangs k ss (length ss) a
+unfolding hang_ends
+hangs_none k ss a h = record {
+  long = h;
+  stand =
+      drop_of_length-le (take (length ss) a) (omega (arith, length-take-le (length ss) a h))
+      ∙ ap (hang_ends k) (sym (none_from ss (length ss) (omega arith)));
+}
 
-  -- what is read at place i
-  pub hangs_read : (i : ℕ) → i < n → Hangs k l n i a
-      → get_or a i 0 ≡ hang_end k (slot_at l i).end (drop (i + 1) (take n l))
-  unfolding hang_ends
-  hangs_read i h e =
-      let x = rest_cons a n i 0 h ha in
-      let y : hang_ends k (drop i (take n l))
-      ≡ hang_end k (slot_at l i).end (drop (i + 1) (take n l)) ∷ hang_ends k (drop (i + 1) (take n l)) =
-      ap (hang_ends k) (rest_cons l n i no_slot h held.fits) in
-      cc
+-- what is read at place i
+pub hangs_read : {k i : ℕ} {ss : List Slot} {a : List ℕ} → Hangs k ss i a → i < length ss
+    → get_or a i 0 ≡ hang_end k (slot_at ss i).end (drop (i + 1) ss)
+unfolding hang_ends
+hangs_read {k} {i} {ss} {a} s h =
+    let x = drop-cons (take (length ss) a) i 0 (omega (arith, length-take-le (length ss) a s.long)) in
+    let t = get_or-take (length ss) a i 0 h in
+    let y : hang_ends k (drop i ss)
+    ≡ hang_end k (slot_at ss i).end (drop (i + 1) ss) ∷ hang_ends k (drop (i + 1) ss) =
+    ap (hang_ends k) (slots_from ss i h) in
+    let z = s.stand in
+    cc
 
-  -- a turn: the slot before slot i stops where slot i does if slot i hangs on it, and else at its own end
-  pub hangs_turn : (i e : ℕ) → 0 < i → i < n → Hangs k l n i a
-      → e ≡ cond (leb (slot_at l i).start ((slot_at l (i - 1)).end + k)) (get_or a i 0) (slot_at l (i - 1)).end
-      → Hangs k l n (i - 1) (set a (i - 1) e)
-  unfolding hang_ends hang_end
-  hangs_turn i e lo h inv q =
-      let j : i - 1 < n = omega arith in
-      let next : i - 1 + 1 ≡ i = omega arith in
-      rw (rest_put a n (i - 1) e j ha, rest_cons l n (i - 1) no_slot j held.fits, next, inv, q, hangs_read i h inv)
-      (ap {B = List ℕ} (λ x. x ∷ hang_ends k (drop i (take n l)))
-      (sym (ap (hang_end k (slot_at l (i - 1)).end) (rest_cons l n i no_slot h held.fits))))
+-- a turn: at place i stands where slot i stops
+pub hangs_put : {k j : ℕ} {ss : List Slot} {a : List ℕ} → Hangs k ss j a → (i : ℕ) → j ≡ i + 1 → i < length ss
+    → (e : ℕ) → e ≡ hang_end k (slot_at ss i).end (drop (i + 1) ss) → Hangs k ss i (set a i e)
+unfolding hang_ends
+hangs_put {k} {j} {ss} {a} s i ji h e q = record {
+  long = rw length-set s.long;
+  stand =
+      let n = length ss in
+      let here : i < length (take n (set a i e)) =
+      omega (arith, length-take-le n (set a i e) (rw length-set s.long)) in
+      let it = get_or-take n (set a i e) i 0 h ∙ get_or-set_same a i e 0 (omega (arith, s.long)) ∙ q in
+      let rest : drop (i + 1) (take n (set a i e)) ≡ hang_ends k (drop (i + 1) ss) =
+      rw (take-set-lt n a i e h, drop-set-lt (i + 1) (take n a) i e (omega arith), ← ji) s.stand in
+      rw (drop-cons (take n (set a i e)) i 0 here, it, ← add-one i, rest)
+      (ap (hang_ends k) (sym (slots_from ss i h)));
+}
 
-hangs_drop : (k i : ℕ) (ss : List Slot) → drop i (hang_ends k ss) ≡ hang_ends k (drop i ss)
+-- the last slot, or one that the next does not hang on, stops at its own end; any other where the next one does
+module _ (k : ℕ) (ss : List Slot) (i : ℕ) where
+  pub stops_last : length ss ≤ i + 1 → (slot_at ss i).end ≡ hang_end k (slot_at ss i).end (drop (i + 1) ss)
+  unfolding hang_end
+  stops_last h = rw (none_from ss (i + 1) h)
+
+  pub stops_own : i + 1 < length ss → (slot_at ss i).end + k < (slot_at ss (i + 1)).start
+      → (slot_at ss i).end ≡ hang_end k (slot_at ss i).end (drop (i + 1) ss)
+  unfolding hang_end
+  stops_own h w = rw (slots_from ss (i + 1) h, lt-leb _ _ w)
+
+  pub stops_next : (a : List ℕ) → Hangs k ss (i + 1) a → i + 1 < length ss
+      → (slot_at ss (i + 1)).start ≤ (slot_at ss i).end + k
+      → get_or a (i + 1) 0 ≡ hang_end k (slot_at ss i).end (drop (i + 1) ss)
+  unfolding hang_end
+  stops_next a s h w = hangs_read s h ∙ rw (slots_from ss (i + 1) h, le-leb _ _ w)
+
+-- ---- once they are filled in
+
+pub hangs_drop : (k i : ℕ) (ss : List Slot) → drop i (hang_ends k ss) ≡ hang_ends k (drop i ss)
 unfolding hang_ends
 hangs_drop k zero ss = refl
 hangs_drop k (suc i) [] = refl
 hangs_drop k (suc i) (s ∷ ss) = hangs_drop k i ss
 
--- ---- once they are filled in
+pub hang_ends_length : (k : ℕ) (ss : List Slot) → length (hang_ends k ss) ≡ length ss
+unfolding hang_ends
+hang_ends_length k [] = refl
+hang_ends_length k (s ∷ ss) = ap suc (hang_ends_length k ss)
 
--- the first n places of the row say where the slots stop
-pub record Stopping (g : Gate) (l : List Slot) (n : ℕ) (a : List ℕ) : Type 0 where
-  pub fits : n ≤ length a
-  pub stops : take n a ≡ hang_ends (reach_of g) (take n l)
-
-pub stop_all : {g : Gate} {l : List Slot} {n : ℕ} {a : List ℕ} → n ≤ 32 → length a ≡ 32
-    → take n a ≡ hang_ends (reach_of g) (take n l) → Stopping g l n a
-stop_all few long e = record { fits = omega arith; stops = e }
-
-module _ {g : Gate} {l : List Slot} {n : ℕ} {a : List ℕ} (held : Held g l n) (ends : Stopping g l n a) (i : ℕ)
-    (h : i < n) where
-  pub stop_is : get_or a i 0 ≡ hang_end (reach_of g) (slot_at l i).end (drop (i + 1) (take n l))
-  stop_is =
-      hangs_read held (reach_of g) a ends.fits i h
-      (ap (drop i) ends.stops ∙ hangs_drop (reach_of g) i (take n l))
-
-  pub stop_in : ((slot_at l i).start < (slot_at l i).end) × ((slot_at l i).end ≤ get_or a i 0)
-      × (get_or a i 0 ≤ g.cycle)
-  stop_in = rw stop_is (hung_in held i h (reach_of g))
+pub hang_ends_at : (k : ℕ) (ss : List Slot) (i : ℕ) → i < length ss
+    → get_or (hang_ends k ss) i 0 ≡ hang_end k (slot_at ss i).end (drop (i + 1) ss)
+unfolding hang_ends
+hang_ends_at k [] i h = absurd (omega arith)
+hang_ends_at k (s ∷ ss) zero h = refl
+hang_ends_at k (s ∷ ss) (suc i) h = rw add-one (simp add-one at (hang_ends_at k ss i (omega arith)))

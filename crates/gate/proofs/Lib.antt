@@ -1,5 +1,3 @@
-pub mod Numbers
-pub mod Places
 pub mod Rows
 pub mod Walks
 pub mod Hangs

@@ -1,12 +1,12 @@
--- The walk along the slots in the first n places of a row, one slot a turn.
+-- The walk along the slots, one slot a turn.
 -- Assumes nothing.
-use mathlib.Core.Path.{◌≡◌, refl, sym, ap, ◌∙◌, subst}
+use mathlib.Core.Path.{◌≡◌, refl, sym, ap, ◌∙◌}
 use mathlib.Core.Bool.{Bool, true, false, cond}
-use mathlib.Core.List.{List, [], ◌∷◌, ◌++◌, append-nil}
+use mathlib.Core.List.{List, [], ◌∷◌, ◌++◌}
 use Prim.Native.Nat.{ℕ, suc, ◌+◌, ◌-◌, ◌≤◌, ◌<◌, zero-le}
 use native.Mathlib.Omega.{arith}
-use lib.ListN.{length, get_or, take, drop, set, length-drop}
-use lib.Seq.{length-take-le, get_or-take}
+use lib.ListN.{length, get_or, take, drop, set, length-take, length-drop}
+use Rattle.std.proofs.Math.Seq.{take-length}
 use lib.Dec.{ltb}
 use borrow.Author.Tests.{lt-ltb, le-ltb}
 use Rattle.meaning.specs.declared.Gate.{Gate}
@@ -14,196 +14,288 @@ use Rattle.meaning.specs.declared.Slot.{Slot}
 use Rattle.meaning.specs.declared.Run.{Run}
 use Rattle.meaning.specs.Runs.{has_free, runs}
 use Rattle.meaning.specs.Promises.{Chain}
-use Rattle.meaning.proofs.Chains.{last_end, hang_end}
+use Rattle.meaning.proofs.Chains.{last_end, hang_end, hang_ge}
 use Rattle.meaning.proofs.ChainCells.{reach_of}
-use Rattle.gate.specs.Walks.{first_start, first_hang, run_with, run_if, walked}
 use Rattle.gate.specs.declared.RunRow.{RunRow}
-use Rattle.gate.specs.Rows.{no_run, run_row}
-use Rattle.laws.proofs.Filling.{Filling, filling_put, filling_skip}
-use Rattle.gate.proofs.Rows.{row_count, row_more}
-use Rattle.gate.proofs.Places.{rest_cons, rest_none}
-use Rattle.gate.proofs.Walks.{has_one, runs_walked, free_walked}
-use Rattle.gate.proofs.Hangs.{no_slot, slot_at, Held, Stopping, stop_is}
+use Rattle.gate.specs.Rows.{GateFits, no_run, run_row}
+use Rattle.gate.specs.Walks.{hang_ends, run_with, run_if, walked, WalkFits}
+use Rattle.laws.proofs.Filling.{Filling, filling_start, filling_put, filling_skip}
+use Rattle.gate.proofs.Rows.{row_none, row_filled, row_count, row_more}
+use Rattle.gate.proofs.Walks.{some_wide, free_wide, runs_plain, runs_hung, runs_across}
+use Rattle.gate.proofs.Hangs.{slot_at, chain_at, within, slots_from, none_from, hang_le, hangs_drop, hang_ends_at}
 
--- the runs that are left to find at slot i, where the slot before it ends at before, one cycle on
-abbrev pub left : Gate → List Slot → ℕ → ℕ → ℕ → List Run
-left g l n before i = walked g (take n l) before (drop i (take n l))
+-- ---- whether a gap is wide
 
--- some are left
-abbrev pub some_left : Gate → List Slot → ℕ → ℕ → ℕ → Bool
-some_left g l n before i = ltb 0 (length (left g l n before i))
+module _ (g : Gate) (ss : List Slot) (before i : ℕ) where
+  pub wide_here : i < length ss → before + reach_of g < (slot_at ss i).start + g.cycle
+      → some_wide g before (drop i ss) ≡ true
+  unfolding some_wide
+  wide_here h w = rw (slots_from ss i h, lt-ltb _ _ w)
 
-walked_few : (g : Gate) (ss : List Slot) (before : ℕ) (post : List Slot)
-    → length (walked g ss before post) ≤ length post
-unfolding walked run_if
-walked_few g ss before [] = zero-le
-walked_few g ss before (s ∷ post) =
-    go (ltb (before + reach_of g) (s.start + g.cycle)) (walked_few g ss (s.end + g.cycle) post)
-  where
-    r : Run
-    r = run_with g (first_start ss) (first_hang (reach_of g) ss) s (hang_end (reach_of g) s.end post)
+  pub wide_later : i < length ss → (slot_at ss i).start + g.cycle ≤ before + reach_of g
+      → some_wide g before (drop i ss) ≡ some_wide g ((slot_at ss i).end + g.cycle) (drop (i + 1) ss)
+  unfolding some_wide
+  wide_later h w = rw (slots_from ss i h, le-ltb _ _ w)
 
-    rest : List Run
-    rest = walked g ss (s.end + g.cycle) post
-
-    go : (t : Bool) → length rest ≤ length post → length (cond t (r ∷ []) [] ++ rest) ≤ suc (length post)
-    go true h = omega arith
-    go false h = omega arith
+  pub wide_none : length ss ≤ i → some_wide g before (drop i ss) ≡ false
+  unfolding some_wide
+  wide_none h = rw (none_from ss i h)
 
 last_at : (s : Slot) (ss : List Slot) → last_end s.end ss ≡ (slot_at (s ∷ ss) (length ss)).end
 unfolding last_end
 last_at s [] = refl
 last_at s (y ∷ ys) = last_at y ys
 
-module _ {g : Gate} {l : List Slot} {n : ℕ} (held : Held g l n) where
-  -- ---- a turn
+last_is : (s : Slot) (ss : List Slot) → last_end s.end ss ≡ (slot_at (s ∷ ss) (length (s ∷ ss) - 1)).end
+last_is s ss =
+    let e : length ss ≡ length (s ∷ ss) - 1 = omega arith in
+    last_at s ss ∙ ap (λ (i : ℕ). (slot_at (s ∷ ss) i).end) e
 
-  -- slot i has a run of its own
-  wide_is : (before i e : ℕ) → i < n → e ≡ hang_end (reach_of g) (slot_at l i).end (drop (i + 1) (take n l))
-      → before + reach_of g < (slot_at l i).start + g.cycle
-      → left g l n before i
-      ≡ run_with g (first_start (take n l)) (first_hang (reach_of g) (take n l)) (slot_at l i) e
-      ∷ left g l n ((slot_at l i).end + g.cycle) (i + 1)
+-- some cell is free exactly where some gap is wide, from the first slot on
+pub free_start : (g : Gate) (ss : List Slot) → Chain 0 ss g.cycle → 0 < length ss
+    → has_free g ss ≡ some_wide g (slot_at ss (length ss - 1)).end ss
+free_start g [] ok h = absurd (omega arith)
+free_start g (s ∷ post) ok h =
+    free_wide g s post ok ∙ ap (λ (e : ℕ). some_wide g e (s ∷ post)) (last_is s post)
+
+-- ---- the runs of a walk
+
+-- no more than slots
+walked_few : (g : Gate) (first far before : ℕ) (post : List Slot) → length (walked g first far before post) ≤ length post
+unfolding walked run_if
+walked_few g first far before [] = zero-le
+walked_few g first far before (s ∷ post) =
+    go (ltb (before + reach_of g) (s.start + g.cycle)) (walked_few g first far (s.end + g.cycle) post)
+  where
+    r : Run
+    r = run_with g first far s (hang_end (reach_of g) s.end post)
+
+    rest : List Run
+    rest = walked g first far (s.end + g.cycle) post
+
+    go : (t : Bool) → length rest ≤ length post → length (cond t (r ∷ []) [] ++ rest) ≤ suc (length post)
+    go true h = omega arith
+    go false h = omega arith
+
+-- the first slot of a walk, and where those that hang together with it stop
+pub record AtSlot (g : Gate) (first far : ℕ) (s : Slot) (e : ℕ) (ss : List Slot) (ends : List ℕ) : Type 0 where
+  pub some : s.start < s.end
+  pub near : s.end ≤ e
+  pub stop_in : e ≤ g.cycle
+  pub stop : e ≡ hang_end (reach_of g) s.end ss
+  pub rest : WalkFits g first far (s.end + g.cycle) ss ends
+
+pub at_slot : {g : Gate} {first far before : ℕ} {s : Slot} {e : ℕ} {ss : List Slot} {ends : List ℕ}
+    → WalkFits g first far before (s ∷ ss) (e ∷ ends) → AtSlot g first far s e ss ends
+unfolding hang_ends
+at_slot {g} {first} {far} {before} {s} {e} {ss} {ends} f =
+    let stop : e ≡ hang_end (reach_of g) s.end ss = let q = f.stops in cc in
+    let x = hang_ge (reach_of g) s.end ss g.cycle f.chain.2 in
+    let y = hang_le (reach_of g) s.end ss g.cycle f.chain.2 in
+    record {
+      some = f.chain.1;
+      near = omega arith;
+      stop_in = omega arith;
+      stop = stop;
+      rest = record {
+        few = omega (arith, f.few);
+        fits = f.fits;
+        first_in = f.first_in;
+        far_in = f.far_in;
+        before_in = omega arith;
+        lo = s.end;
+        chain = f.chain.2;
+        stops = let q = f.stops in cc;
+      };
+    }
+
+-- how far a walk has come: these slots are left, the slot before them ends at end, one cycle on, and the row begins
+-- with the runs found
+pub record Walking (g : Gate) (first far : ℕ) (whole : List Run) (end : ℕ) (ss : List Slot) (ends : List ℕ)
+    (found : RunRow) : Type 0 where
+  pub fits : WalkFits g first far end ss ends
+  pub few : found.n + length ss ≤ 32
+  pub filling : Filling 32 no_run found.row found.n (walked g first far end ss) whole
+
+pub walk_start : {g : Gate} {first far before : ℕ} {ss : List Slot} {ends : List ℕ} {found : RunRow}
+    → WalkFits g first far before ss ends → found ≡ run_row []
+    → Walking g first far (walked g first far before ss) before ss ends found
+walk_start {g} {first} {far} {before} {ss} f e =
+    rw (e, ← row_none) (record {
+      fits = f;
+      few = omega (arith, f.few);
+      filling = filling_start 32 no_run (walked g first far before ss);
+    })
+
+module _ {g : Gate} {first far : ℕ} {whole : List Run} {end : ℕ} {s : Slot} {e : ℕ} {ss : List Slot} {ends : List ℕ}
+    {found : RunRow} (so_far : Walking g first far whole end (s ∷ ss) (e ∷ ends) found) where
+  -- this slot has no run of its own
+  pub walk_narrow : s.start + g.cycle ≤ end + reach_of g → Walking g first far whole (s.end + g.cycle) ss ends found
   unfolding walked run_if
-  wide_is before i e h q w = rw (rest_cons l n i no_slot h held.fits, lt-ltb _ _ w, q)
+  walk_narrow w = record {
+    fits = (at_slot so_far.fits).rest;
+    few = omega (arith, so_far.few);
+    filling = filling_skip so_far.filling (rw (le-ltb _ _ w));
+  }
 
-  -- it has none
-  left_narrow : (before i : ℕ) → i < n → (slot_at l i).start + g.cycle ≤ before + reach_of g
-      → left g l n before i ≡ left g l n ((slot_at l i).end + g.cycle) (i + 1)
+  -- it has one
+  pub walk_wide : end + reach_of g < s.start + g.cycle → {r : Run} {more : RunRow} → r ≡ run_with g first far s e
+      → more ≡ record { n = found.n + 1; row = set found.row found.n r }
+      → Walking g first far whole (s.end + g.cycle) ss ends more
   unfolding walked run_if
-  left_narrow before i h w = rw (rest_cons l n i no_slot h held.fits, le-ltb _ _ w)
+  walk_wide w {r} x q =
+      let here = at_slot so_far.fits in
+      rw q (record {
+        fits = here.rest;
+        few = omega (arith, so_far.few);
+        filling =
+            filling_put so_far.filling (rw (lt-ltb _ _ w)) (x ∙ ap (run_with g first far s) here.stop)
+            (omega (arith, so_far.few));
+      })
 
-  -- a loop that has put m runs into the row puts none
-  pub turn_narrow : {row row' : List Run} {m m' : ℕ} {whole : List Run} (before i : ℕ) → i < n → m ≤ i
-      → Filling 32 no_run row m (left g l n before i) whole → (slot_at l i).start + g.cycle ≤ before + reach_of g
-      → row' ≡ row → m' ≡ m
-      → (m' ≤ i + 1) × Filling 32 no_run row' m' (left g l n ((slot_at l i).end + g.cycle) (i + 1)) whole
-  turn_narrow before i h k f w p q = (omega (arith, k, q), rw (p, q) (filling_skip f (left_narrow before i h w)))
+-- with no slot left, the row holds the runs of the walk
+pub walk_end : {g : Gate} {first far : ℕ} {whole : List Run} {end : ℕ} {ss : List Slot} {ends : List ℕ}
+    {found : RunRow} → Walking g first far whole end ss ends found → length ss ≤ 0 → found ≡ run_row whole
+unfolding walked
+walk_end {ss = []} so_far none = row_filled so_far.filling refl
+walk_end {ss = s ∷ ss} so_far none = absurd (omega arith)
 
-  pub left_none : (before i : ℕ) → n ≤ i → left g l n before i ≡ []
-  unfolding walked
-  left_none before i h = rw (rest_none l n i h held.fits)
+-- ---- the runs of all slots
 
-  -- no more runs than slots
-  left_few : (before i : ℕ) → length (left g l n before i) ≤ n - i
-  left_few before i =
-      omega (
+-- where those that hang together with the first slot stop, and where the last slot does
+abbrev pub far_of : Gate → List Slot → ℕ
+far_of g ss = hang_end (reach_of g) (slot_at ss 0).end (drop 1 ss)
+
+abbrev pub last_of : List Slot → ℕ
+last_of ss = (slot_at ss (length ss - 1)).end
+
+-- the guard of the first slot does not reach back over the cycle's end
+pub all_plain : (g : Gate) (ss : List Slot) → Chain 0 ss g.cycle → 0 < length ss → g.guard ≤ (slot_at ss 0).start
+    → walked g (slot_at ss 0).start (far_of g ss) (last_of ss) ss ≡ runs g ss
+all_plain g [] ok h w = absurd (omega arith)
+all_plain g (s ∷ post) ok h w =
+    ap (λ (e : ℕ). walked g s.start (far_of g (s ∷ post)) e (s ∷ post)) (sym (last_is s post))
+    ∙ sym (runs_plain g s post ok w)
+
+-- it does, and the first slot, one cycle on, hangs on the last
+pub all_hung : (g : Gate) (ss : List Slot) → Chain 0 ss g.cycle → 0 < length ss → (slot_at ss 0).start < g.guard
+    → (slot_at ss 0).start + g.cycle ≤ last_of ss + reach_of g
+    → walked g (slot_at ss 0).start (far_of g ss) ((slot_at ss 0).end + g.cycle) (drop 1 ss) ≡ runs g ss
+all_hung g [] ok h w near = absurd (omega arith)
+all_hung g (s ∷ post) ok h w near = sym (runs_hung g s post ok w (rw (last_is s post) near))
+
+-- it does, and the first slot's run comes last
+pub all_across : (g : Gate) (ss : List Slot) → Chain 0 ss g.cycle → 0 < length ss → (slot_at ss 0).start < g.guard
+    → last_of ss + reach_of g < (slot_at ss 0).start + g.cycle
+    → walked g (slot_at ss 0).start (far_of g ss) ((slot_at ss 0).end + g.cycle) (drop 1 ss)
+    ++ run_with g (slot_at ss 0).start (far_of g ss) (slot_at ss 0) (far_of g ss) ∷ []
+    ≡ runs g ss
+all_across g [] ok h w wide = absurd (omega arith)
+all_across g (s ∷ post) ok h w wide = sym (runs_across g s post ok w (rw (last_is s post) wide))
+
+-- what is known of all slots, one at least: the first, the last, and where those that hang together stop
+pub record Known (g : Gate) (ss : List Slot) (first last : Slot) (ends : List ℕ) : Type 0 where
+  pub few : length ss ≤ 32
+  pub fits : GateFits g
+  pub chain : Chain 0 ss g.cycle
+  pub some : 0 < length ss
+  pub first_is : first ≡ slot_at ss 0
+  pub last_is : last ≡ slot_at ss (length ss - 1)
+  pub stops : ends ≡ hang_ends (reach_of g) ss
+
+tail_all : {A : Type 0} (xs : List A) → take (length xs - 1) (drop 1 xs) ≡ drop 1 xs
+tail_all xs =
+    let e : length xs - 1 ≡ length (drop 1 xs) = omega (arith, length-drop 1 xs) in
+    ap (λ (n : ℕ). take n (drop 1 xs)) e ∙ take-length (drop 1 xs)
+
+module _ {g : Gate} {ss : List Slot} {first last : Slot} {ends : List ℕ} (k : Known g ss first last ends) where
+  -- the first slot, those that hang together with it, and the last slot
+  pub record Lie : Type 0 where
+    pub first_some : first.start < first.end
+    pub near : first.end ≤ get_or ends 0 0
+    pub far_in : get_or ends 0 0 ≤ g.cycle
+    pub last_in : last.end ≤ g.cycle
+
+  far_is : get_or ends 0 0 ≡ far_of g ss
+  far_is = ap (λ (l : List ℕ). get_or l 0 0) k.stops ∙ hang_ends_at (reach_of g) ss 0 k.some
+
+  pub lie : Lie
+  lie =
+      let x = within (reach_of g) 0 g.cycle ss k.chain 0 k.some in
+      let y = within 0 0 g.cycle ss k.chain (length ss - 1) (omega (arith, k.some)) in
+      record {
+        first_some = rw k.first_is x.some;
+        near = rw (k.first_is, far_is) x.near;
+        far_in = rw far_is x.far;
+        last_in = omega (arith, y.near, y.far, ap (λ (s : Slot). s.end) k.last_is);
+      }
+
+  -- what the walks along all slots and along those behind the first ask
+  pub walk_all : WalkFits g first.start (get_or ends 0 0) last.end ss ends
+  walk_all =
+      let x = lie in
+      record {
+        few = k.few;
+        fits = k.fits;
+        first_in = omega (arith, x.first_some, x.near, x.far_in);
+        far_in = x.far_in;
+        before_in = omega (arith, x.last_in);
+        lo = 0;
+        chain = k.chain;
+        stops = k.stops;
+      }
+
+  pub walk_others : WalkFits g first.start (get_or ends 0 0) (first.end + g.cycle)
+      (take (length ss - 1) (drop 1 ss)) (take (length ends - 1) (drop 1 ends))
+  walk_others =
+      let x = lie in
+      rw (tail_all ss, tail_all ends) (record {
+        few = omega (arith, length-drop 1 ss, k.few);
+        fits = k.fits;
+        first_in = omega (arith, x.first_some, x.near, x.far_in);
+        far_in = x.far_in;
+        before_in = omega (arith, x.near, x.far_in);
+        lo = (slot_at ss 0).end;
+        chain = (chain_at 0 ss g.cycle 0 k.chain k.some).1;
+        stops = ap (drop 1) k.stops ∙ hangs_drop (reach_of g) 1 ss;
+      })
+
+  pub row_plain : {row : RunRow} → row ≡ run_row (walked g first.start (get_or ends 0 0) last.end ss)
+      → g.guard ≤ first.start → row ≡ run_row (runs g ss)
+  row_plain e w =
+      e ∙ ap run_row (rw (far_is, k.first_is, k.last_is) (all_plain g ss k.chain k.some (rw k.first_is at w)))
+
+  -- behind the first slot there is a place for its run
+  pub others_few : {row : RunRow}
+      → row ≡ run_row (walked g first.start (get_or ends 0 0) (first.end + g.cycle) (take (length ss - 1) (drop 1 ss)))
+      → row.n < 32
+  others_few e =
+      rw (row_count _ e)
+      (omega (
         arith,
-        walked_few g (take n l) before (drop i (take n l)),
-        length-drop i (take n l),
-        length-take-le n l held.fits,
-      )
+        walked_few g first.start (get_or ends 0 0) (first.end + g.cycle) (take (length ss - 1) (drop 1 ss)),
+        length-take (length ss - 1) (drop 1 ss),
+        k.few,
+        k.some,
+      ))
 
-  -- a place is left for the first slot's, behind those of the others
-  others_few : (before : ℕ) → n ≤ 32 → length (left g l n before 1) < 32
-  others_few before h = omega (arith, left_few before 1)
+  pub row_hung : {row : RunRow}
+      → row ≡ run_row (walked g first.start (get_or ends 0 0) (first.end + g.cycle) (take (length ss - 1) (drop 1 ss)))
+      → first.start < g.guard → first.start + g.cycle ≤ last.end + reach_of g → row ≡ run_row (runs g ss)
+  row_hung e w near =
+      e
+      ∙ ap run_row
+      (rw (tail_all ss, far_is, k.first_is)
+      (all_hung g ss k.chain k.some (rw k.first_is at w) (rw (k.first_is, k.last_is) at near)))
 
-  pub others_place : (before : ℕ) {row : RunRow} → n ≤ 32 → row ≡ run_row (left g l n before 1) → row.n < 32
-  others_place before h e = rw (row_count (left g l n before 1) e) (others_few before h)
-
-  -- the same three cases, of whether some are left
-  pub some_wide : (before i : ℕ) → i < n → before + reach_of g < (slot_at l i).start + g.cycle
-      → some_left g l n before i ≡ true
-  some_wide before i h w = has_one (wide_is before i _ h refl w)
-
-  pub some_narrow : (before i : ℕ) → i < n → (slot_at l i).start + g.cycle ≤ before + reach_of g
-      → some_left g l n before i ≡ some_left g l n ((slot_at l i).end + g.cycle) (i + 1)
-  some_narrow before i h w = ap (λ (rs : List Run). ltb 0 (length rs)) (left_narrow before i h w)
-
-  pub some_none : (before i : ℕ) → n ≤ i → some_left g l n before i ≡ false
-  some_none before i h = ap (λ (rs : List Run). ltb 0 (length rs)) (left_none before i h)
-
-  -- ---- from the first slot on
-
-  whole_is : take n l ≡ slot_at l 0 ∷ drop 1 (take n l)
-  whole_is = rest_cons l n 0 no_slot held.some held.fits
-
-  line : Chain 0 (slot_at l 0 ∷ drop 1 (take n l)) g.cycle
-  line = subst (λ (ss : List Slot). Chain 0 ss g.cycle) whole_is held.chain
-
-  first_start_lem : first_start (take n l) ≡ (slot_at l 0).start
-  unfolding first_start
-  first_start_lem = ap first_start whole_is
-
-  first_hang_lem : first_hang (reach_of g) (take n l) ≡ hang_end (reach_of g) (slot_at l 0).end (drop 1 (take n l))
-  unfolding first_hang
-  first_hang_lem = ap (first_hang (reach_of g)) whole_is
-
-  last_end_in : last_end (slot_at l 0).end (drop 1 (take n l)) ≡ (slot_at l (n - 1)).end
-  last_end_in =
-      let e = length-drop 1 (take n l) in
-      let size : length (drop 1 (take n l)) ≡ n - 1 = omega (arith, length-take-le n l held.fits) in
-      last_at (slot_at l 0) (drop 1 (take n l))
-      ∙ ap (λ (ss : List Slot). (slot_at ss (length (drop 1 (take n l)))).end) (sym whole_is)
-      ∙ rw size (ap (λ (s : Slot). s.end) (get_or-take n l (n - 1) no_slot (omega (arith, held.some))))
-
-  -- some cell is free exactly where some run is left at the first slot
-  pub some_start : has_free g (take n l) ≡ some_left g l n (slot_at l (n - 1)).end 0
-  some_start = rw (last_end_in, ← whole_is) at (free_walked g (slot_at l 0) (drop 1 (take n l)) line)
-
-  both : runs g (take n l)
-      ≡ cond (ltb (slot_at l 0).start g.guard)
-      (left g l n ((slot_at l 0).end + g.cycle) 1
-      ++ run_if g (take n l) (slot_at l (n - 1)).end (slot_at l 0)
-      (hang_end (reach_of g) (slot_at l 0).end (drop 1 (take n l))))
-      (left g l n (slot_at l (n - 1)).end 0)
-  both = rw (last_end_in, ← whole_is) at (runs_walked g (slot_at l 0) (drop 1 (take n l)) line)
-
-  -- the guard of the first slot does not reach back over the cycle's end
-  runs_plain : g.guard ≤ (slot_at l 0).start → runs g (take n l) ≡ left g l n (slot_at l (n - 1)).end 0
-  runs_plain h = rw (both, le-ltb (slot_at l 0).start g.guard h)
-
-  pub row_plain : {row : RunRow} → row ≡ run_row (left g l n (slot_at l (n - 1)).end 0)
-      → g.guard ≤ (slot_at l 0).start → row ≡ run_row (runs g (take n l))
-  row_plain e h = e ∙ ap run_row (sym (runs_plain h))
-
-  -- it does, and the first slot, one cycle on, hangs on the last
-  runs_hung : (slot_at l 0).start < g.guard → (slot_at l 0).start + g.cycle ≤ (slot_at l (n - 1)).end + reach_of g
-      → runs g (take n l) ≡ left g l n ((slot_at l 0).end + g.cycle) 1
-  unfolding run_if
-  runs_hung h w = rw (both, lt-ltb (slot_at l 0).start g.guard h, le-ltb _ _ w, append-nil)
-
-  pub row_hung : {row : RunRow} → row ≡ run_row (left g l n ((slot_at l 0).end + g.cycle) 1)
-      → (slot_at l 0).start < g.guard → (slot_at l 0).start + g.cycle ≤ (slot_at l (n - 1)).end + reach_of g
-      → row ≡ run_row (runs g (take n l))
-  row_hung e h w = e ∙ ap run_row (sym (runs_hung h w))
-
-  -- ---- with the ends filled in
-
-  module _ {a : List ℕ} (ends : Stopping g l n a) where
-    -- slot i has a run of its own
-    left_wide : (before i : ℕ) → i < n → before + reach_of g < (slot_at l i).start + g.cycle
-        → left g l n before i
-        ≡ run_with g (slot_at l 0).start (get_or a 0 0) (slot_at l i) (get_or a i 0)
-        ∷ left g l n ((slot_at l i).end + g.cycle) (i + 1)
-    left_wide before i h w =
-        wide_is before i (get_or a i 0) h (stop_is held ends i h) w
-        ∙ rw (first_start_lem, first_hang_lem ∙ sym (stop_is held ends 0 held.some))
-
-    -- a loop that has put m runs into the row puts it there
-    pub turn_wide : {row row' : List Run} {m m' : ℕ} {r : Run} {whole : List Run} (before i : ℕ) → i < n → n ≤ 32
-        → m ≤ i → Filling 32 no_run row m (left g l n before i) whole
-        → before + reach_of g < (slot_at l i).start + g.cycle
-        → r ≡ run_with g (slot_at l 0).start (get_or a 0 0) (slot_at l i) (get_or a i 0)
-        → row' ≡ set row m r → m' ≡ m + 1
-        → (m' ≤ i + 1) × Filling 32 no_run row' m' (left g l n ((slot_at l i).end + g.cycle) (i + 1)) whole
-    turn_wide before i h few k f w x p q =
-        (omega (arith, k, q), rw (p, q) (filling_put f (left_wide before i h w) x (omega (arith, h, few, k))))
-
-    -- the guard of the first slot reaches back over the cycle's end, and its run comes last
-    runs_across : (slot_at l 0).start < g.guard → (slot_at l (n - 1)).end + reach_of g < (slot_at l 0).start + g.cycle
-        → runs g (take n l)
-        ≡ left g l n ((slot_at l 0).end + g.cycle) 1
-        ++ run_with g (slot_at l 0).start (get_or a 0 0) (slot_at l 0) (get_or a 0 0) ∷ []
-    unfolding run_if
-    runs_across h w =
-        rw (both, lt-ltb (slot_at l 0).start g.guard h, lt-ltb _ _ w, first_start_lem, first_hang_lem)
-        (rw (stop_is held ends 0 held.some))
-
-    pub row_across : {row : RunRow} {r : Run} → n ≤ 32 → row ≡ run_row (left g l n ((slot_at l 0).end + g.cycle) 1)
-        → r ≡ run_with g (slot_at l 0).start (get_or a 0 0) (slot_at l 0) (get_or a 0 0)
-        → (slot_at l 0).start < g.guard → (slot_at l (n - 1)).end + reach_of g < (slot_at l 0).start + g.cycle
-        → record { n = row.n + 1; row = set row.row row.n r } ≡ run_row (runs g (take n l))
-    row_across few e q h w =
-        row_more (left g l n ((slot_at l 0).end + g.cycle) 1) e q (others_few ((slot_at l 0).end + g.cycle) few)
-        ∙ ap run_row (sym (runs_across h w))
+  pub row_across : {row more : RunRow} {r : Run}
+      → row ≡ run_row (walked g first.start (get_or ends 0 0) (first.end + g.cycle) (take (length ss - 1) (drop 1 ss)))
+      → r ≡ run_with g first.start (get_or ends 0 0) first (get_or ends 0 0)
+      → more ≡ record { n = row.n + 1; row = set row.row row.n r } → first.start < g.guard
+      → last.end + reach_of g < first.start + g.cycle → more ≡ run_row (runs g ss)
+  row_across e x q w wide =
+      let few = rw (row_count _ e) at (others_few e) in
+      q ∙ row_more _ e x few
+      ∙ ap run_row
+      (rw (tail_all ss, far_is, k.first_is)
+      (all_across g ss k.chain k.some (rw k.first_is at w) (rw (k.first_is, k.last_is) at wide)))

@@ -2,14 +2,14 @@
 -- Assumes nothing.
 use mathlib.Core.Path.{◌≡◌, refl, sym, ap, ◌∙◌}
 use mathlib.Core.Logic.{◌↔◌}
-use mathlib.Core.Bool.{Bool, true, false, not, cond}
+use mathlib.Core.Bool.{Bool, true, false, not, cond, ◌||◌}
 use mathlib.Core.List.{List, [], ◌∷◌, ◌++◌, append_assoc, append-nil}
-use Prim.Native.Nat.{ℕ, ◌+◌, ◌-◌, ◌≤◌, ◌<◌, zero-le}
+use Prim.Native.Nat.{ℕ, suc, ◌+◌, ◌-◌, ◌≤◌, ◌<◌, zero-le}
 use native.Mathlib.Nat.{mod-eq_of_lt}
 use native.Mathlib.Omega.{arith}
 use lib.ListN.{length}
 use lib.Dec.{leb, ltb}
-use borrow.Author.Tests.{leb-true, leb-false, le-leb, lt-leb, ltb-true, ltb-false, lt-ltb}
+use borrow.Author.Tests.{leb-true, leb-false, le-leb, lt-leb, ltb-true, ltb-false, lt-ltb, le-ltb}
 use Rattle.laws.specs.Lists.{Mem, any}
 use Rattle.laws.proofs.Lists.{mem_head, mem_none}
 use Rattle.laws.proofs.Circle.{mod_once}
@@ -24,7 +24,16 @@ use Rattle.meaning.proofs.Chains.{up, last_end, hang_end, chain_split, chain_le,
 use Rattle.meaning.proofs.ChainCells.{reach_of, behind, Gap, cell_of, gap_before, guard_lt}
 use Rattle.meaning.proofs.ChainRuns.{broken, run_of, run_at, chain_from, chain_runs, chain_runs_lem}
 use Rattle.meaning.proofs.ChainFree.{gap_last, free_has_run}
-use Rattle.gate.specs.Walks.{first_start, first_hang, run_with, run_if, walked}
+use Rattle.gate.specs.Walks.{run_with, run_if, walked}
+
+-- where the first slot starts, and the end of the last slot that hangs together with it
+abbrev first_start : List Slot → ℕ
+first_start [] = 0
+first_start (s ∷ ss) = s.start
+
+abbrev first_hang : ℕ → List Slot → ℕ
+first_hang k [] = 0
+first_hang k (s ∷ ss) = hang_end k s.end ss
 
 -- ---- what hangs together, before the cycle's end and past it
 
@@ -92,7 +101,6 @@ stop_is : (g : Gate) (pre : List Slot) (s : Slot) (post : List Slot) → Chain 0
     ≡ cond (leb (first_start (pre ++ s ∷ post) + g.cycle) (hang_end (reach_of g) s.end post + reach_of g))
     (first_hang (reach_of g) (pre ++ s ∷ post) + g.cycle)
     (hang_end (reach_of g) s.end post)
-unfolding first_start first_hang
 stop_is g [] s post ok gap =
     let last = hang_last (reach_of g) s.end post g.cycle ok.2 in
     let wide : last_end s.end post + reach_of g < s.start + g.cycle = rw append-nil at gap in
@@ -121,7 +129,9 @@ run_is g pre s post ok gap =
 -- a run is found with slot s where the gap before it is wide enough, and not otherwise
 found_is : (g : Gate) (pre : List Slot) (s : Slot) (post : List Slot) (before : ℕ)
     → Chain 0 (pre ++ s ∷ post) g.cycle → last_end s.end (behind g pre post) ≡ before
-    → run_at g pre s post ≡ run_if g (pre ++ s ∷ post) before s (hang_end (reach_of g) s.end post)
+    → run_at g pre s post
+    ≡ run_if g (first_start (pre ++ s ∷ post)) (first_hang (reach_of g) (pre ++ s ∷ post)) before s
+    (hang_end (reach_of g) s.end post)
 unfolding run_at broken run_if
 found_is g pre s post before ok e =
     rw (← e) (go (ltb (last_end s.end (behind g pre post) + reach_of g) (s.start + g.cycle)) refl)
@@ -139,7 +149,8 @@ found_is g pre s post before ok e =
 -- behind slot y
 rest_walked : (g : Gate) (pre : List Slot) (y : Slot) (post : List Slot)
     → Chain 0 ((pre ++ y ∷ []) ++ post) g.cycle
-    → chain_from g (pre ++ y ∷ []) post ≡ walked g ((pre ++ y ∷ []) ++ post) (y.end + g.cycle) post
+    → chain_from g (pre ++ y ∷ []) post ≡ walked g (first_start ((pre ++ y ∷ []) ++ post)) (first_hang (reach_of g) ((pre ++ y ∷ []) ++ post))
+    (y.end + g.cycle) post
 unfolding chain_from walked
 rest_walked g pre y [] ok = refl
 rest_walked g pre y (s ∷ post) ok =
@@ -151,44 +162,90 @@ rest_walked g pre y (s ∷ post) ok =
 -- with the first slot
 first_found : (g : Gate) (s : Slot) (post : List Slot) → Chain 0 (s ∷ post) g.cycle
     → run_at g [] s post
-    ≡ run_if g (s ∷ post) (last_end s.end post) s (hang_end (reach_of g) s.end post)
+    ≡ run_if g s.start (hang_end (reach_of g) s.end post) (last_end s.end post) s (hang_end (reach_of g) s.end post)
 first_found g s post ok = found_is g [] s post _ ok (ap (last_end s.end) (append-nil post))
 
 -- from the first slot on
 all_walked : (g : Gate) (s : Slot) (post : List Slot) → Chain 0 (s ∷ post) g.cycle
-    → chain_from g [] (s ∷ post) ≡ walked g (s ∷ post) (last_end s.end post) (s ∷ post)
+    → chain_from g [] (s ∷ post)
+    ≡ walked g s.start (hang_end (reach_of g) s.end post) (last_end s.end post) (s ∷ post)
 unfolding chain_from walked
 all_walked g s post ok = rw (first_found g s post ok, rest_walked g [] s post ok)
 
--- by rising start: the first slot's run comes first, or last where its guard reaches back over the cycle's end
-pub runs_walked : (g : Gate) (s : Slot) (post : List Slot) → Chain 0 (s ∷ post) g.cycle
-    → runs g (s ∷ post)
-    ≡ cond (ltb s.start g.guard)
-    (walked g (s ∷ post) (s.end + g.cycle) post
-    ++ run_if g (s ∷ post) (last_end s.end post) s (hang_end (reach_of g) s.end post))
-    (walked g (s ∷ post) (last_end s.end post) (s ∷ post))
-unfolding chain_runs
-runs_walked g s post ok =
-    rw (← chain_runs_lem g (s ∷ post) ok, all_walked g s post ok, first_found g s post ok, rest_walked g [] s post ok)
+module _ (g : Gate) (s : Slot) (post : List Slot) (ok : Chain 0 (s ∷ post) g.cycle) where
+  -- where those that hang together with the first slot stop
+  abbrev far : ℕ
+  far = hang_end (reach_of g) s.end post
 
-pub has_one : {rs left : List Run} {r : Run} → rs ≡ r ∷ left → ltb 0 (length rs) ≡ true
-has_one {rs} e = lt-ltb 0 (length rs) (omega (arith, ap length e))
+  -- by rising start: the first slot's run comes first, or last where its guard reaches back over the cycle's end
+  both : runs g (s ∷ post)
+      ≡ cond (ltb s.start g.guard)
+      (walked g s.start far (s.end + g.cycle) post ++ run_if g s.start far (last_end s.end post) s far)
+      (walked g s.start far (last_end s.end post) (s ∷ post))
+  unfolding chain_runs
+  both =
+      rw (← chain_runs_lem g (s ∷ post) ok, all_walked g s post ok, first_found g s post ok, rest_walked g [] s post ok)
+
+  -- the guard of the first slot does not reach back over the cycle's end
+  pub runs_plain : g.guard ≤ s.start → runs g (s ∷ post) ≡ walked g s.start far (last_end s.end post) (s ∷ post)
+  runs_plain h = rw (both, le-ltb s.start g.guard h)
+
+  -- it does, and the first slot, one cycle on, hangs on the last
+  pub runs_hung : s.start < g.guard → s.start + g.cycle ≤ last_end s.end post + reach_of g
+      → runs g (s ∷ post) ≡ walked g s.start far (s.end + g.cycle) post
+  unfolding run_if
+  runs_hung h w = rw (both, lt-ltb s.start g.guard h, le-ltb _ _ w, append-nil)
+
+  -- it does, and the first slot's run comes last
+  pub runs_across : s.start < g.guard → last_end s.end post + reach_of g < s.start + g.cycle
+      → runs g (s ∷ post)
+      ≡ walked g s.start far (s.end + g.cycle) post ++ run_with g s.start far s far ∷ []
+  unfolding run_if
+  runs_across h w = rw (both, lt-ltb s.start g.guard h, lt-ltb _ _ w)
+
+-- ---- whether some cell is free
+
+-- some gap before one of these slots is over guard + header; the slot before them ends at before, one cycle on
+unfoldable pub some_wide : Gate → ℕ → List Slot → Bool
+some_wide g before [] = false
+some_wide g before (s ∷ post) =
+    ltb (before + reach_of g) (s.start + g.cycle) || some_wide g (s.end + g.cycle) post
+
+-- exactly then a run is found
+wide_walked : (g : Gate) (first far before : ℕ) (ss : List Slot)
+    → ltb 0 (length (walked g first far before ss)) ≡ some_wide g before ss
+unfolding walked run_if some_wide
+wide_walked g first far before [] = refl
+wide_walked g first far before (s ∷ post) =
+    go (ltb (before + reach_of g) (s.start + g.cycle)) (wide_walked g first far (s.end + g.cycle) post)
+  where
+    rest : List Run
+    rest = walked g first far (s.end + g.cycle) post
+
+    r : Run
+    r = run_with g first far s (hang_end (reach_of g) s.end post)
+
+    go : (t : Bool) → ltb 0 (length rest) ≡ some_wide g (s.end + g.cycle) post
+        → ltb 0 (length (cond t (r ∷ []) [] ++ rest)) ≡ (t || some_wide g (s.end + g.cycle) post)
+    go true e = lt-ltb 0 (suc (length rest)) (omega arith)
+    go false e = e
 
 some_mem : (rs : List Run) (b : Bool) → ((r : Run) × Mem r rs) ↔ (b ≡ true) → b ≡ ltb 0 (length rs)
 some_mem [] true h = mem_none (h.1 refl).1
 some_mem [] false h = refl
-some_mem (r ∷ rs) b h = h.0 (r, mem_head r rs) ∙ sym (has_one {rs = r ∷ rs} refl)
+some_mem (r ∷ rs) b h = h.0 (r, mem_head r rs) ∙ sym (lt-ltb 0 (suc (length rs)) (omega arith))
 
--- some cell is free exactly where a run is found
-pub free_walked : (g : Gate) (s : Slot) (post : List Slot) → Chain 0 (s ∷ post) g.cycle
-    → has_free g (s ∷ post) ≡ ltb 0 (length (walked g (s ∷ post) (last_end s.end post) (s ∷ post)))
+-- some cell is free exactly where some gap is wide
+pub free_wide : (g : Gate) (s : Slot) (post : List Slot) → Chain 0 (s ∷ post) g.cycle
+    → has_free g (s ∷ post) ≡ some_wide g (last_end s.end post) (s ∷ post)
 unfolding chain_runs chain_from
-free_walked g s post ok =
-    rw (← all_walked g s post ok)
-    (some_mem (first ++ rest) (has_free g (s ∷ post)) (
+free_wide g s post ok =
+    some_mem (first ++ rest) (has_free g (s ∷ post)) (
       λ (r, m). free.0 (r, (around (ltb s.start g.guard)).1 m),
       λ e. let (r, m) = free.1 e in (r, (around (ltb s.start g.guard)).0 m),
-    ))
+    )
+    ∙ ap (λ (rs : List Run). ltb 0 (length rs)) (all_walked g s post ok)
+    ∙ wide_walked g s.start (hang_end (reach_of g) s.end post) (last_end s.end post) (s ∷ post)
   where
     first : List Run
     first = run_at g [] s post
@@ -204,10 +261,12 @@ free_walked g s post ok =
     around false = (λ m. m, λ m. m)
 
 -- with no slot every cell is free, and there is no run
-pub free_none : (g : Gate) → 1 ≤ g.cycle → has_free g [] ≡ true
+pub free_none : (g : Gate) (ss : List Slot) → length ss ≤ 0 → 1 ≤ g.cycle → has_free g ss ≡ true
 unfolding has_free blocked any
-free_none g h = (any_below_true g.cycle (λ c. not (blocked g [] c))).1 (0, h, refl)
+free_none g [] none h = (any_below_true g.cycle (λ c. not (blocked g [] c))).1 (0, h, refl)
+free_none g (s ∷ ss) none h = absurd (omega arith)
 
-pub runs_none : (g : Gate) → runs g [] ≡ []
+pub runs_none : (g : Gate) (ss : List Slot) → length ss ≤ 0 → runs g ss ≡ []
 unfolding chain_runs
-runs_none g = sym (chain_runs_lem g [] zero-le)
+runs_none g [] none = sym (chain_runs_lem g [] zero-le)
+runs_none g (s ∷ ss) none = absurd (omega arith)

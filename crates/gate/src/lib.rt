@@ -1,12 +1,12 @@
 // Blocked runs (document 01, "Blocked runs"): from gate numbers and slots in a chain, linear in the slots.
 #![tactic(auto)]
 
-ghost use Rattle.std.specs.Prelude.{◌≡◌, ◌+◌, ◌≤◌, take, drop};
+ghost use Rattle.std.specs.Prelude.{[], ◌≡◌, ◌+◌, ◌≤◌, ◌<◌, length, set, take};
 ghost use Rattle.meaning.specs.Runs.{has_free, runs};
 ghost use Rattle.meaning.specs.Promises.{Chain};
 ghost use Rattle.meaning.proofs.ChainCells.{reach_of};
 ghost use Rattle.gate.specs.Rows.{GateFits, run_row};
-ghost use Rattle.gate.specs.Walks.{hang_ends, run_with, walked};
+ghost use Rattle.gate.specs.Walks.{hang_ends, run_with, walked, WalkFits};
 
 use meaning::{Gate, Run, Slot};
 
@@ -17,58 +17,76 @@ pub struct RunRow {
     pub row: [Run; 32],
 }
 
+impl RunRow {
+    // No run yet.
+    fn none() -> RunRow
+        ensures { result ≡ run_row [] }
+    {
+        RunRow {
+            n: 0,
+            row: [Run::default(); 32],
+        }
+    }
+
+    // The runs that it holds.
+    pub fn runs(&self) -> &[Run]
+        requires { self.now.n ≤ 32 }
+        ensures { result.now ≡ take self.now.n self.now.row }
+    {
+        &self.row[..self.n]
+    }
+
+    // One run more, behind the others.
+    fn push(&mut self, r: Run)
+        requires { self.old.n < 32 }
+        ensures { self.new ≡ record { n = self.old.n + 1; row = set self.old.row self.old.n r } }
+    {
+        self.row[self.n] = r;
+        self.n += 1;
+    }
+}
+
 // Whether some cell is free: there is no slot, or some gap is over guard + header, the one around the cycle's end among
 // them. The slot before the first is the last one; the slot before any other ends at before, one cycle on.
-pub fn some_free(g: Gate, slots: [Slot; 32], n: usize) -> bool
-    requires { (n ≤ 32) × GateFits g × Chain 0 (take n slots) g.cycle }
-    ensures { result ≡ has_free g (take n slots) }
+pub fn some_free(g: Gate, slots: &[Slot]) -> bool
+    requires { (length slots.now ≤ 32) × GateFits g × Chain 0 slots.now g.cycle }
+    ensures { result ≡ has_free g slots.now }
 {
-    if n == 0 {
+    let Some(last) = slots.last() else {
         return true;
-    }
+    };
     let reach = g.guard + g.header;
-    let last = slots[n - 1];
     let mut before = last.end;
-    let mut i: usize = 0;
-    while i < n {
-        let s = slots[i];
+    for s in slots {
         if before + reach < s.start + g.cycle {
             return true;
         }
         before = s.end + g.cycle;
-        i += 1;
     }
     false
 }
 
 // Two slots hang together where the gap between them is at most guard + header: what they block overlaps or touches.
 // Of each slot, the end of the last one that hangs together with it before the cycle's end.
-fn hang_ends(g: Gate, slots: [Slot; 32], n: usize) -> [u32; 32]
-    requires { (1 ≤ n) × (n ≤ 32) × GateFits g × Chain 0 (take n slots) g.cycle }
-    ensures { take n result ≡ hang_ends (reach_of g) (take n slots) }
+fn hang_ends(g: Gate, slots: &[Slot]) -> [u32; 32]
+    requires { (length slots.now ≤ 32) × GateFits g × Chain 0 slots.now g.cycle }
+    ensures { take (length slots.now) result ≡ hang_ends (reach_of g) slots.now }
 {
     let reach = g.guard + g.header;
-    let mut ends = [0u32; 32];
-    let mut i = n - 1;
-    let last = slots[i];
-    ends[i] = last.end;
-    while 0 < i {
-        let t = slots[i];
-        let j = i - 1;
-        let s = slots[j];
-        let e = if t.start <= s.end + reach {
-            ends[i]
-        } else {
-            s.end
+    let mut ends = [0; 32];
+    for i in (0..slots.len()).rev() {
+        let s = slots[i];
+        ends[i] = match slots.get(i + 1) {
+            Some(t) if t.start <= s.end + reach => ends[i + 1],
+            _ => s.end,
         };
-        ends[j] = e;
-        i = j;
     }
     ends
 }
 
 // The run that starts with slot s, where the gap before s is over guard + header. The slots that hang together with s
 // stop at e before the cycle's end; if the first slot hangs on there, one cycle on, its own follow, which stop at far.
+#[tactic(auto, unfolding(crate::specs::Walks::run_with))]
 fn run_with(g: Gate, first: u32, far: u32, s: Slot, e: u32) -> Run
     requires { GateFits g × (first ≤ g.cycle) × (far ≤ g.cycle) × (e ≤ g.cycle) × (s.start ≤ e)
         × (g.guard ≤ s.start + g.cycle) }
@@ -91,65 +109,50 @@ fn run_with(g: Gate, first: u32, far: u32, s: Slot, e: u32) -> Run
     }
 }
 
-// The runs that start with slot number from and those after it; the slot before them ends at before, one cycle on.
-fn runs_from(
-    g: Gate,
-    slots: [Slot; 32],
-    n: usize,
-    ends: [u32; 32],
-    from: usize,
-    before: u32,
-) -> RunRow
-    requires { (1 ≤ n) × (n ≤ 32) × GateFits g × Chain 0 (take n slots) g.cycle
-        × (take n ends ≡ hang_ends (reach_of g) (take n slots)) × (from ≤ n) × (before ≤ g.cycle + g.cycle) }
-    ensures { result ≡ run_row (walked g (take n slots) before (drop from (take n slots))) }
+// The runs that start with these slots, which stop at these ends; the slot before them ends at before, one cycle on.
+// The first of all slots starts at first, and those that hang together with it stop at far.
+fn runs_from(g: Gate, first: u32, far: u32, slots: &[Slot], ends: &[u32], before: u32) -> RunRow
+    requires { WalkFits g first far before slots.now ends.now }
+    ensures { result ≡ run_row (walked g first far before slots.now) }
 {
     let reach = g.guard + g.header;
-    let first = slots[0];
-    let far = ends[0];
-    let mut row = [Run { start: 0, len: 0 }; 32];
-    let mut m: usize = 0;
+    let mut found = RunRow::none();
     let mut end = before;
-    let mut i = from;
-    while i < n {
-        let s = slots[i];
+    for (s, e) in slots.iter().zip(ends) {
         if end + reach < s.start + g.cycle {
-            let e = ends[i];
-            row[m] = run_with(g, first.start, far, s, e);
-            m += 1;
+            found.push(run_with(g, first, far, *s, *e));
         }
         end = s.end + g.cycle;
-        i += 1;
     }
-    RunRow { n: m, row }
+    found
 }
 
 // The blocked runs by rising start. The one that crosses the cycle's end is whole, and stands last, also where it
 // starts with the first slot, whose guard then reaches back over the cycle's end.
-pub fn find_runs(g: Gate, slots: [Slot; 32], n: usize) -> RunRow
-    requires { (n ≤ 32) × GateFits g × Chain 0 (take n slots) g.cycle }
-    ensures { result ≡ run_row (runs g (take n slots)) }
+pub fn find_runs(g: Gate, slots: &[Slot]) -> RunRow
+    requires { (length slots.now ≤ 32) × GateFits g × Chain 0 slots.now g.cycle }
+    ensures { result ≡ run_row (runs g slots.now) }
 {
-    if n == 0 {
-        return RunRow {
-            n: 0,
-            row: [Run { start: 0, len: 0 }; 32],
-        };
-    }
+    let (Some(first), Some(last)) = (slots.first(), slots.last()) else {
+        return RunRow::none();
+    };
     let reach = g.guard + g.header;
-    let ends = hang_ends(g, slots, n);
-    let first = slots[0];
-    let last = slots[n - 1];
-    if g.guard <= first.start {
-        return runs_from(g, slots, n, ends, 0, last.end);
-    }
-    let found = runs_from(g, slots, n, ends, 1, first.end + g.cycle);
-    if first.start + g.cycle <= last.end + reach {
-        return found;
-    }
+    let ends = hang_ends(g, slots);
+    let ends = &ends[..slots.len()];
     let far = ends[0];
-    let m = found.n;
-    let mut row = found.row;
-    row[m] = run_with(g, first.start, far, first, far);
-    RunRow { n: m + 1, row }
+    if g.guard <= first.start {
+        return runs_from(g, first.start, far, slots, ends, last.end);
+    }
+    let mut found = runs_from(
+        g,
+        first.start,
+        far,
+        &slots[1..],
+        &ends[1..],
+        first.end + g.cycle,
+    );
+    if last.end + reach < first.start + g.cycle {
+        found.push(run_with(g, first.start, far, *first, far));
+    }
+    found
 }

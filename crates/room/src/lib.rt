@@ -1,137 +1,142 @@
 // Fields written into a caller's room (document 01, "each field into the rest of the caller's room").
 #![tactic(auto)]
 
-ghost use Rattle.std.specs.Prelude.{◌≡◌, ◌++◌, map, ◌*◌, ◌<◌, ◌≤◌, length, take, drop};
+ghost use Rattle.std.specs.Prelude.{◌≡◌, ℕ, ◌++◌, map, ◌*◌, ◌≤◌, length};
 ghost use Rattle.laws.specs.Lists.{joined};
-ghost use Rattle.meaning.specs.Bytes.{octets_of, port_field, slot_field, stream_field, field_octets};
-ghost use Rattle.room.specs.Writing.{StreamFits, AllFit};
+ghost use Rattle.meaning.specs.Bytes.{octets_of, Field, port_field, slot_field, stream_field};
+ghost use Rattle.meaning.specs.Bytes.{field_length, field_octets};
+ghost use Rattle.room.specs.Writing.{Wrote, PortFits, StreamFits, AllFit};
+ghost use Rattle.room.specs.Lengths.{port_length, slot_length, stream_length};
 
 use meaning::{Port, Slot, Stream};
 
-// A number of one octet at the front of the room.
-fn put1(out: &mut [u8], v: u8)
-    requires { 1 ≤ length out.old }
-    ensures { out.new ≡ octets_of 1 v ++ drop 1 out.old }
-{
-    out[0] = v;
+// What stands in a plan as a field: which one, how many octets it takes, and when its numbers fit them.
+pub trait AsField: Copy {
+    const OCTETS: usize;
+
+    ghost OCTETS: { ℕ };
+
+    ghost as_field: { Self → Field };
+
+    ghost Fits: { Self → Type 0 };
+
+    // The field at the front of the room: each number fills the front of what is left.
+    fn put(self, out: &mut [u8]) -> usize
+        requires { (OCTETS ≤ length out.old) × Fits self }
+        ensures { Wrote (field_octets (as_field self)) result out.old out.new };
+
+    ghost long: { (x : Self) → field_length (as_field x) ≡ OCTETS };
 }
 
-// A number of two octets at the front of the room, the higher first.
-fn put2(out: &mut [u8], v: u16)
-    requires { 2 ≤ length out.old }
-    ensures { out.new ≡ octets_of 2 v ++ drop 2 out.old }
+// Octets at the front of the room.
+pub fn put(out: &mut [u8], octets: &[u8]) -> usize
+    requires { length octets.now ≤ length out.old }
+    ensures { Wrote octets.now result out.old out.new }
 {
-    out[0] = (v / 256) as u8;
-    out[1] = (v % 256) as u8;
-}
-
-// A number of four octets at the front of the room, the highest first.
-fn put4(out: &mut [u8], v: u32)
-    requires { 4 ≤ length out.old }
-    ensures { out.new ≡ octets_of 4 v ++ drop 4 out.old }
-{
-    out[0] = (v / 16777216) as u8;
-    out[1] = (v / 65536 % 256) as u8;
-    out[2] = (v / 256 % 256) as u8;
-    out[3] = (v % 256) as u8;
+    out[..octets.len()].copy_from_slice(octets);
+    octets.len()
 }
 
 // The tag and the length of a field at the front of the room.
-fn put_tag(out: &mut [u8], tag: u8, octets: u16)
+fn put_tag(out: &mut [u8], tag: u8, octets: u16) -> usize
     requires { 3 ≤ length out.old }
-    ensures { out.new ≡ octets_of 1 tag ++ octets_of 2 octets ++ drop 3 out.old }
+    ensures { Wrote (octets_of 1 tag ++ octets_of 2 octets) result out.old out.new }
 {
-    put1(out, tag);
-    put2(&mut out[1..], octets);
+    let at = put(out, &tag.to_be_bytes());
+    at + put(&mut out[at..], &octets.to_be_bytes())
 }
 
 // The short numbers of a stream at the front of the room.
-fn put_short(out: &mut [u8], id: u16, priority: u8, octets: u16)
+fn put_short(out: &mut [u8], id: u16, priority: u8, octets: u16) -> usize
     requires { 5 ≤ length out.old }
-    ensures { out.new
-        ≡ octets_of 2 id ++ octets_of 1 priority ++ octets_of 2 octets ++ drop 5 out.old }
+    ensures { Wrote (octets_of 2 id ++ octets_of 1 priority ++ octets_of 2 octets) result out.old out.new }
 {
-    put2(out, id);
-    put1(&mut out[2..], priority);
-    put2(&mut out[3..], octets);
+    let mut at = put(out, &id.to_be_bytes());
+    at += put(&mut out[at..], &priority.to_be_bytes());
+    at + put(&mut out[at..], &octets.to_be_bytes())
 }
 
 // Three times at the front of the room, four octets each.
-fn put_times(out: &mut [u8], a: u32, b: u32, c: u32)
+fn put_times(out: &mut [u8], a: u32, b: u32, c: u32) -> usize
     requires { 12 ≤ length out.old }
-    ensures { out.new
-        ≡ octets_of 4 a ++ octets_of 4 b ++ octets_of 4 c ++ drop 12 out.old }
+    ensures { Wrote (octets_of 4 a ++ octets_of 4 b ++ octets_of 4 c) result out.old out.new }
 {
-    put4(out, a);
-    put4(&mut out[4..], b);
-    put4(&mut out[8..], c);
+    let mut at = put(out, &a.to_be_bytes());
+    at += put(&mut out[at..], &b.to_be_bytes());
+    at + put(&mut out[at..], &c.to_be_bytes())
 }
 
-// The PORT field at the front of the room: each number fills the front of what is left.
-pub fn put_port(out: &mut [u8], p: Port)
-    requires { (16 ≤ length out.old) × (p.rate < 256) }
-    ensures { out.new ≡ field_octets (port_field p) ++ drop 16 out.old }
-{
-    put_tag(out, 1, 13);
-    put1(&mut out[3..], p.rate as u8);
-    put_times(&mut out[4..], p.cycle, p.guard, p.header);
-}
+impl AsField for Port {
+    const OCTETS: usize = 16;
 
-// A SLOT field at the front of the room.
-pub fn put_slot(out: &mut [u8], s: Slot)
-    requires { 11 ≤ length out.old }
-    ensures { out.new ≡ field_octets (slot_field s) ++ drop 11 out.old }
-{
-    put_tag(out, 2, 8);
-    put4(&mut out[3..], s.start);
-    put4(&mut out[7..], s.end);
-}
+    ghost OCTETS = { 16 };
 
-// A STREAM field at the front of the room.
-pub fn put_stream(out: &mut [u8], j: Stream)
-    requires { (20 ≤ length out.old) × StreamFits j }
-    ensures { out.new ≡ field_octets (stream_field j) ++ drop 20 out.old }
-{
-    put_tag(out, 3, 17);
-    put_short(
-        &mut out[3..],
-        j.id as u16,
-        j.priority as u8,
-        j.octets as u16,
-    );
-    put_times(&mut out[8..], j.period, j.jitter, j.deadline);
-}
+    ghost as_field = { port_field };
 
-// The fields of the first n slots, each into the rest of the room.
-pub fn put_slots(out: &mut [u8], slots: [Slot; 32], n: usize) -> usize
-    requires { (n ≤ 32) × (11 * n ≤ length out.old) }
-    ensures { (result ≡ 11 * n) × (out.new
-        ≡ joined field_octets (map slot_field (take n slots)) ++ drop (11 * n) out.old) }
-{
-    let mut at: usize = 0;
-    let mut i: usize = 0;
-    while i < n {
-        let s = slots[i];
-        put_slot(&mut out[at..], s);
-        at += 11;
-        i += 1;
+    ghost Fits = { PortFits };
+
+    ghost long = { port_length };
+
+    #[tactic(auto, unfolding(meaning::specs::Bytes::octets_of))]
+    fn put(self, out: &mut [u8]) -> usize {
+        let mut at = put_tag(out, 1, 13);
+        at += put(&mut out[at..], &(self.rate as u8).to_be_bytes());
+        at + put_times(&mut out[at..], self.cycle, self.guard, self.header)
     }
-    at
 }
 
-// The fields of the first n streams, each into the rest of the room.
-pub fn put_streams(out: &mut [u8], streams: [Stream; 64], n: usize) -> usize
-    requires { (n ≤ 64) × (20 * n ≤ length out.old) × AllFit (take n streams) }
-    ensures { (result ≡ 20 * n) × (out.new
-        ≡ joined field_octets (map stream_field (take n streams)) ++ drop (20 * n) out.old) }
+impl AsField for Slot {
+    const OCTETS: usize = 11;
+
+    ghost OCTETS = { 11 };
+
+    ghost as_field = { slot_field };
+
+    ghost Fits = { λ _. Unit {0} };
+
+    ghost long = { slot_length };
+
+    #[tactic(auto, unfolding(meaning::specs::Bytes::octets_of))]
+    fn put(self, out: &mut [u8]) -> usize {
+        let mut at = put_tag(out, 2, 8);
+        at += put(&mut out[at..], &self.start.to_be_bytes());
+        at + put(&mut out[at..], &self.end.to_be_bytes())
+    }
+}
+
+impl AsField for Stream {
+    const OCTETS: usize = 20;
+
+    ghost OCTETS = { 20 };
+
+    ghost as_field = { stream_field };
+
+    ghost Fits = { StreamFits };
+
+    ghost long = { stream_length };
+
+    #[tactic(auto, unfolding(meaning::specs::Bytes::octets_of))]
+    fn put(self, out: &mut [u8]) -> usize {
+        let mut at = put_tag(out, 3, 17);
+        at += put_short(
+            &mut out[at..],
+            self.id as u16,
+            self.priority as u8,
+            self.octets as u16,
+        );
+        at + put_times(&mut out[at..], self.period, self.jitter, self.deadline)
+    }
+}
+
+// The fields of some slots, or some streams, each into the rest of the room.
+pub fn put_all<T: AsField>(out: &mut [u8], items: &[T]) -> usize
+    requires room { T.OCTETS * length items.now ≤ length out.old }
+    requires fit { AllFit T.Fits items.now }
+    ensures { Wrote (joined field_octets (map T.as_field items.now)) result out.old out.new }
 {
     let mut at: usize = 0;
-    let mut k: usize = 0;
-    while k < n {
-        let j = streams[k];
-        put_stream(&mut out[at..], j);
-        at += 20;
-        k += 1;
+    for x in items {
+        at += x.put(&mut out[at..]);
     }
     at
 }

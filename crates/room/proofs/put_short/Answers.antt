@@ -1,19 +1,13 @@
 -- `room::put_short` meets its contract: each number fills the front of what is left.
-use mathlib.Core.Path.{refl}
-use mathlib.Core.List.{◌++◌}
+use Rattle.std.proofs.Common.{◌∙◌}
 use Rattle.meaning.specs.Bytes.{octets_of}
-use Rattle.room.proofs.Rooms.{fill_next}
+use Rattle.room.proofs.Rooms.{octets_1, octets_2, wrote_as, wrote_next}
 use Rattle.room.proofs.put_short.Goals as goal
 
 pub returns : goal.returns
 unfolding octets_of
 returns c =
-    let third = c.before.before in
-    let second = third.before.before.before.before in
-    let first = second.before.before.before.before in
-    let a = first.args in
-    let two =
-    fill_next 2 1 _ _ (octets_of 2 a.id) (octets_of 1 a.priority) a.out.now refl
-    first.put2.ensures second.put1.ensures in
-    fill_next 3 2 _ _ (octets_of 2 a.id ++ octets_of 1 a.priority) (octets_of 2 a.octets) a.out.now refl
-    two third.put2-2.ensures
+    wrote_next
+    (wrote_next (wrote_as (c.to_be_bytes.ensures ∙ octets_2 c.args.id) c.put-at.ensures)
+    (wrote_as (c.to_be_bytes-2.ensures ∙ octets_1 c.args.priority c.ranges.priority.fits) c.put-at-2.ensures))
+    (wrote_as (c.to_be_bytes-3.ensures ∙ octets_2 c.args.octets) c.put.ensures)

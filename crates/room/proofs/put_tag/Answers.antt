@@ -1,13 +1,9 @@
 -- `room::put_tag` meets its contract: the length fills the front of what the tag leaves.
-use Rattle.meaning.specs.Bytes.{octets_of}
-use Rattle.meaning.proofs.Octets.{octets_length}
-use Rattle.room.proofs.Rooms.{fill_next}
+use Rattle.std.proofs.Common.{◌∙◌}
+use Rattle.room.proofs.Rooms.{octets_1, octets_2, wrote_as, wrote_next}
 use Rattle.room.proofs.put_tag.Goals as goal
 
 pub returns : goal.returns
 returns c =
-    let second = c.before.before in
-    let first = second.before.before.before.before in
-    let a = first.args in
-    fill_next 1 2 _ _ (octets_of 1 a.tag) (octets_of 2 a.octets) a.out.now (octets_length 1 a.tag)
-    first.put1.ensures second.put2.ensures
+    wrote_next (wrote_as (c.to_be_bytes.ensures ∙ octets_1 c.args.tag c.ranges.tag.fits) c.put-at.ensures)
+    (wrote_as (c.to_be_bytes-2.ensures ∙ octets_2 c.args.octets) c.put.ensures)

@@ -1,19 +1,13 @@
 -- `room::put_times` meets its contract: each time fills the front of what is left.
-use mathlib.Core.Path.{refl}
-use mathlib.Core.List.{◌++◌}
+use Rattle.std.proofs.Common.{◌∙◌}
 use Rattle.meaning.specs.Bytes.{octets_of}
-use Rattle.room.proofs.Rooms.{fill_next}
+use Rattle.room.proofs.Rooms.{octets_4, wrote_as, wrote_next}
 use Rattle.room.proofs.put_times.Goals as goal
 
 pub returns : goal.returns
 unfolding octets_of
 returns c =
-    let third = c.before.before in
-    let second = third.before.before.before.before in
-    let first = second.before.before.before.before in
-    let a = first.args in
-    let two =
-    fill_next 4 4 _ _ (octets_of 4 a.a) (octets_of 4 a.b) a.out.now refl
-    first.put4.ensures second.put4-2.ensures in
-    fill_next 8 4 _ _ (octets_of 4 a.a ++ octets_of 4 a.b) (octets_of 4 a.c) a.out.now refl
-    two third.put4-3.ensures
+    wrote_next
+    (wrote_next (wrote_as (c.to_be_bytes.ensures ∙ octets_4 c.args.a) c.put-at.ensures)
+    (wrote_as (c.to_be_bytes-2.ensures ∙ octets_4 c.args.b) c.put-at-2.ensures))
+    (wrote_as (c.to_be_bytes-3.ensures ∙ octets_4 c.args.c) c.put.ensures)
