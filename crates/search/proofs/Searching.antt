@@ -17,10 +17,12 @@ use Rattle.meaning.proofs.Arrivals.{counted, most_grows}
 use Rattle.table.specs.Lookup.{paired}
 use Rattle.table.specs.declared.Stairs.{Stairs}
 use Rattle.arrivals.specs.declared.counts.Counts.{Counts}
+use Rattle.arrivals.specs.declared.rows.Rows.{Rows}
 use Rattle.arrivals.specs.Rows.{stream_at, row_load, RowsFit, RowsCounted}
 use Rattle.search.specs.Asked.{Asked, OwnFits, own_stream, row_demand, row_busy}
-use Rattle.search.specs.Searches.{table_of, all_of, TableBounds, NoneCloses, Closes}
-use Rattle.arrivals.proofs.Counting.{rows_all}
+use Rattle.search.specs.declared.own.Own.{Own}
+use Rattle.search.specs.Searches.{table_of, all_of, TableBounds, asked_of, Counted, demand, busy, NoneCloses, Closes}
+use Rattle.arrivals.proofs.Counting.{rows_few, rows_on, rows_all}
 
 -- ---- interference
 
@@ -137,3 +139,19 @@ pub base_soon : (v : ℕ → ℕ) (per jit cost : List ℕ) (n base off : ℕ) �
     → base ≤ 100_000_000
 unfolding row_demand
 base_soon v per jit cost n base off (x, closes, soon) = omega arith
+
+-- ---- over the code's structs
+
+module _ (s : Stairs) (fit : TableBounds s) (r : Rows) where
+  -- what a try sums up fits 64 bits with room to spare
+  pub loads_few : (seen : Counts) (w : ℕ) → Counted r seen w → w ≤ 100_000_000 → seen.load ≤ 2_560_128_000_000
+  loads_few seen w u soon = omega (arith, r.fit.few, rows_few r.per r.jit r.cost r.n r.fit seen w u soon)
+
+  pub demand_grows : (base off : ℕ) → Mono (demand s r base off)
+  demand_grows = row_demand_mono r.per r.jit r.cost r.n r.fit (table_of s) fit.grows
+
+  pub busy_grows : (o : Own) → Mono (busy s r o)
+  busy_grows o = row_busy_mono r.per r.jit r.cost r.n r.fit (table_of s) fit.grows (asked_of o) o.fits
+
+pub counted_on_to : (r : Rows) (seen : Counts) (x y : ℕ) → Counted r seen x → x ≤ y → Counted r seen y
+counted_on_to r seen x y u h = rows_on r.per r.jit r.cost r.n r.fit seen x u y h

@@ -29,7 +29,14 @@ pub fn attempt(rows: &Rows, stairs: &Stairs, base: u64, off: u32, w: u32, seen: 
 
 // The wait of a frame: the least w, from `from` on, that covers base, the load in w, and the interference of w and off.
 // There is one up to the horizon.
-pub fn settle(rows: &Rows, stairs: &Stairs, base: u64, off: u32, from: u32, seen: &mut Counts) -> u32
+pub fn settle(
+    rows: &Rows,
+    stairs: &Stairs,
+    base: u64,
+    off: u32,
+    from: u32,
+    seen: &mut Counts,
+) -> u32
     requires { TableBounds stairs.now × Counted rows.now seen.old from
         × (base ≤ 1_000_000_000_000) × (off ≤ 2_000_000)
         × Under (demand stairs.now rows.now base off) from × Closes (demand stairs.now rows.now base off) }
