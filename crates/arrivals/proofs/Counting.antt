@@ -2,50 +2,42 @@
 -- Assumes nothing.
 use mathlib.Core.Path.{◌≡◌, refl, sym, ap, ap₂, ◌∙◌}
 use mathlib.Core.Bool.{Bool, true, false, cond}
-use mathlib.Core.List.{List}
-use Prim.Native.Nat.{ℕ, suc, ◌+◌, ◌*◌, ◌≤◌, ◌<◌, zero-le}
+use mathlib.Core.List.{List, ◌++◌}
+use Prim.Native.Nat.{ℕ, suc, ◌+◌, ◌*◌, ◌≤◌, ◌<◌, min, zero-le}
 use native.Mathlib.Nat.{add-zero, le_refl, le_trans, mul-le-mul, mul-le-mul_right}
 use native.Mathlib.Omega.{arith}
-use lib.ListN.{length, get_or, set, length-set}
+use lib.ListN.{length, get_or, set, take, drop}
 use lib.Seq.{get_or-set_other}
 use lib.Dec.{leb}
 use mir.Syntax.{w64}
 use mir.Val.{Fits}
-use borrow.Author.Tests.{leb-true, leb-false, le-leb, lt-leb}
+use borrow.Author.Tests.{leb-true, leb-false}
 use Rattle.laws.specs.Numbers.{sum}
 use Rattle.laws.proofs.Sums.{sum_ext, sum_add}
 use Rattle.meaning.specs.Arrivals.{most_in}
 use Rattle.meaning.proofs.Later.{CountedTo, next_of, counted_at, counted_on, counted_more, counted_all}
 use Rattle.arrivals.specs.declared.counts.Counts.{Counts}
-use Rattle.arrivals.specs.Rows.{stream_at, row_load, RowsFit, Low, RowsCounted, stepped, gained, Passed}
-use Rattle.arrivals.proofs.Places.{sum_more, sum_few, set_below}
+use Rattle.arrivals.specs.Rows.{stream_at, row_load, RowsFit, Low, RowsCounted, stepped, gained}
+use Rattle.arrivals.proofs.Places.{sum_more, sum_few, set_below, back_front, back_rest}
+use Rattle.std.proofs.lemmas.List.{get_or-take}
 use Rattle.arrivals.proofs.Arriving.{frames_few}
-
--- ---- one stream in a pass
-
-pub stepped_came : (x a period : ℕ) → a ≤ x → a + period ≡ stepped x a period
-unfolding stepped
-stepped_came x a period h = rw (le-leb a x h)
-
-pub stepped_stays : (x a period : ℕ) → x < a → a ≡ stepped x a period
-unfolding stepped
-stepped_stays x a period h = rw (lt-leb a x h)
-
-pub gained_came : (x a cost : ℕ) → a ≤ x → cost ≡ gained x a cost
-unfolding gained
-gained_came x a cost h = rw (le-leb a x h)
-
-pub gained_none : (x a cost : ℕ) → x < a → 0 ≡ gained x a cost
-unfolding gained
-gained_none x a cost h = rw (lt-leb a x h)
 
 -- ---- a pass, as far as it has come
 
-pub pass_starts : (old per cost : List ℕ) (x : ℕ) → length old ≡ 64 → Passed old per cost x 0 old 0 4_294_967_295
+-- one pass over the first i streams, from the next instants old to the next instants new: add is the wire time of what
+-- has come by x, and least the least of the new instants
+pub record Passed (old per cost : List ℕ) (x i : ℕ) (new : List ℕ) (add least : ℕ) : Type 0 where
+  pub done : (k : ℕ) → k < i → get_or new k 0 ≡ stepped x (get_or old k 0) (get_or per k 0)
+  pub left : (k : ℕ) → i ≤ k → get_or new k 0 ≡ get_or old k 0
+  pub tally : add ≡ sum i (λ k. gained x (get_or old k 0) (get_or cost k 0))
+  pub few : add ≤ i * 2_000_000
+  pub low : Low new i least
+  pub high : (z : ℕ) → z ≤ 4_294_967_295 → Low new i z → z ≤ least
+
+pub pass_starts : (old per cost : List ℕ) (x : ℕ) → Passed old per cost x 0 old 0 4_294_967_295
 unfolding sum
-pass_starts old per cost x e =
+pass_starts old per cost x =
     record {
-      long = e;
       done = λ k h. absurd (omega arith);
       left = λ k h. refl;
       tally = refl;
@@ -56,26 +48,24 @@ pass_starts old per cost x e =
 
 -- one stream more: its next instant s, the wire time g that it adds, and the least l of the instants so far and s
 module _ (old per cost : List ℕ) (x i : ℕ) (new : List ℕ) (add least s g l : ℕ) where
-  pub pass_more : Passed old per cost x i new add least → i < 64 → s ≡ stepped x (get_or new i 0) (get_or per i 0)
-      → g ≡ gained x (get_or new i 0) (get_or cost i 0) → g ≤ 2_000_000
-      → (l ≤ least) × (l ≤ s) × ((z : ℕ) → z ≤ least → z ≤ s → z ≤ l)
-      → Passed old per cost x (i + 1) (set new i s) (add + g) l
-  pass_more p room es eg few (below, under, high) =
+  pub pass_more : Passed old per cost x i new add least → i < length new
+      → s ≡ stepped x (get_or new i 0) (get_or per i 0) → g ≡ gained x (get_or new i 0) (get_or cost i 0)
+      → g ≤ 2_000_000 → l ≡ min least s → Passed old per cost x (i + 1) (set new i s) (add + g) l
+  pass_more p inside es eg few el =
       record {
-        long = rw length-set p.long;
         done = set_below (λ k a. a ≡ stepped x (get_or old k 0) (get_or per k 0)) new i s inside p.done (rw here at es);
         left = λ k h. get_or-set_other new i k s 0 (λ e. absurd (omega arith)) ∙ p.left k (omega arith);
         tally = rw (sum_more i) (omega (arith, p.tally, rw here at eg));
         few = omega (arith, p.few);
-        low = set_below (λ k a. l ≤ a) new i s inside (λ k h. le_trans below (p.low k h)) under;
+        low = set_below (λ k a. l ≤ a) new i s inside (λ k h. omega (arith, p.low k h)) (omega arith);
         high =
-            λ z h low. high z (p.high z h (λ k q. rw (other k q) at (low k (omega arith))))
-            (rw same at (low i (omega arith)));
+            λ z h low. omega (
+              arith,
+              p.high z h (λ k q. rw (other k q) at (low k (omega arith))),
+              rw same at (low i (omega arith)),
+            );
       }
     where
-      inside : i < length new
-      inside = omega (arith, p.long)
-
       here : get_or new i 0 ≡ get_or old i 0
       here = p.left i (le_refl i)
 
@@ -87,34 +77,56 @@ module _ (old per cost : List ℕ) (x i : ℕ) (new : List ℕ) (add least s g l
       other : (k : ℕ) → k < i → get_or (set new i s) k 0 ≡ get_or new k 0
       other k h = get_or-set_other new i k s 0 (λ e. absurd (omega arith))
 
+-- the first n next instants, lent to the pass, are back
+pass_back : (old per cost : List ℕ) (x n : ℕ) (items : List ℕ) (add least : ℕ) → length items ≡ n
+    → Passed (take n old) per cost x n items add least → Passed old per cost x n (items ++ drop n old) add least
+pass_back old per cost x n items add least e p =
+    record {
+      done = λ k h. front k h ∙ rw (lent k h) at (p.done k h);
+      left = back_rest old items n e;
+      tally = p.tally ∙ sum_ext n _ _ (λ k h. ap (λ (a : ℕ). gained x a (get_or cost k 0)) (lent k h));
+      few = p.few;
+      low = λ k h. rw (front k h) (p.low k h);
+      high = λ z h low. p.high z h (λ k q. rw (front k q) at (low k q));
+    }
+  where
+    front : (k : ℕ) → k < n → get_or (items ++ drop n old) k 0 ≡ get_or items k 0
+    front = back_front old items n e
+
+    lent : (k : ℕ) → k < n → get_or (take n old) k 0 ≡ get_or old k 0
+    lent k h = get_or-take n old k 0 h
+
 -- ---- a count from the start, as far as it has come
 
 -- the frames of the first i streams counted at x
 abbrev pub CountedAt : (per jit cost : List ℕ) (x i : ℕ) (next : List ℕ) (load least : ℕ) → Type 0
 CountedAt per jit cost x i next load least =
-    (length next ≡ 64) × ((k : ℕ) → k < i → get_or next k 0 ≡ next_of (stream_at per jit k) x)
+    ((k : ℕ) → k < i → get_or next k 0 ≡ next_of (stream_at per jit k) x)
     × (load ≡ row_load per jit cost i x) × Low next i least × (x < least)
 
 module _ (per jit cost : List ℕ) (x : ℕ) where
-  pub count_starts : (next : List ℕ) (least : ℕ) → length next ≡ 64 → x < least
-      → CountedAt per jit cost x 0 next 0 least
+  pub count_starts : (next : List ℕ) (least : ℕ) → x < least → CountedAt per jit cost x 0 next 0 least
   unfolding row_load sum
-  count_starts next least e past = (e, λ k h. absurd (omega arith), refl, λ k h. absurd (omega arith), past)
+  count_starts next least past = (λ k h. absurd (omega arith), refl, λ k h. absurd (omega arith), past)
 
   -- one stream more: its next instant s, the wire time g of its frames, and the least l of the instants so far and s
-  pub count_more : (i : ℕ) (next : List ℕ) (load least s g l : ℕ) → CountedAt per jit cost x i next load least → i < 64
+  pub count_more : (i : ℕ) (next : List ℕ) (load least s g l : ℕ) → CountedAt per jit cost x i next load least → i < length next
       → s ≡ next_of (stream_at per jit i) x → x < s → g ≡ most_in (stream_at per jit i) x * get_or cost i 0
-      → (l ≤ least) × (l ≤ s) × ((z : ℕ) → z ≤ least → z ≤ s → z ≤ l)
-      → CountedAt per jit cost x (i + 1) (set next i s) (load + g) l
+      → l ≡ min least s → CountedAt per jit cost x (i + 1) (set next i s) (load + g) l
   unfolding row_load
-  count_more i next load least s g l (long, nexts, tally, low, past) room es after eg (below, under, high) =
-      let inside : i < length next = omega arith in (
-        rw length-set long,
-        set_below (λ k a. a ≡ next_of (stream_at per jit k) x) next i s inside nexts es,
-        rw (sum_more i) (omega (arith, tally, eg)),
-        set_below (λ k a. l ≤ a) next i s inside (λ k h. le_trans below (low k h)) under,
-        high (suc x) past after,
-      )
+  count_more i next load least s g l (nexts, tally, low, past) inside es after eg el = (
+    set_below (λ k a. a ≡ next_of (stream_at per jit k) x) next i s inside nexts es,
+    rw (sum_more i) (omega (arith, tally, eg)),
+    set_below (λ k a. l ≤ a) next i s inside (λ k h. omega (arith, low k h)) (omega arith),
+    omega arith,
+  )
+
+-- the first n next instants, lent to the count, are back
+pub count_back : (per jit cost : List ℕ) (x n : ℕ) (row items : List ℕ) (load least : ℕ) → length items ≡ n
+    → CountedAt per jit cost x n items load least → CountedAt per jit cost x n (items ++ drop n row) load least
+count_back per jit cost x n row items load least e (nexts, tally, low, past) =
+    let front = back_front row items n e in
+    (λ k h. front k h ∙ nexts k h, tally, λ k h. rw (front k h) (low k h), past)
 
 -- what one stream more has at least, beside what those before it have at least
 pub row_load_under : (per jit cost : List ℕ) (x i load f : ℕ) → load ≤ row_load per jit cost i x
@@ -147,12 +159,11 @@ module _ (per jit cost : List ℕ) (n : ℕ) (fit : RowsFit per jit cost n) wher
   load_room x i load more soon h e few = omega (arith, fit.few, row_load_few x i soon (omega arith))
 
   -- a count that is complete
-  pub count_ends : (x : ℕ) (next : List ℕ) (seen : Counts) → CountedAt per jit cost x n next seen.load seen.least
-      → RowsCounted per jit cost n next seen x × (x < seen.least)
+  pub count_ends : (x : ℕ) (seen : Counts) → CountedAt per jit cost x n seen.next seen.load seen.least
+      → RowsCounted per jit cost n seen x × (x < seen.least)
   unfolding row_load
-  count_ends x next seen (long, nexts, tally, low, past) = (
+  count_ends x seen (nexts, tally, low, past) = (
     record {
-      long = long;
       taken = λ k. most_in (stream_at per jit k) x;
       each = λ k h. rw (nexts k h) (counted_at (stream_at per jit k) (row_pos k h) x);
       tally = tally;
@@ -161,16 +172,15 @@ module _ (per jit cost : List ℕ) (n : ℕ) (fit : RowsFit per jit cost n) wher
     past,
   )
 
-  module _ (next : List ℕ) (seen : Counts) (x : ℕ) (u : RowsCounted per jit cost n next seen x) where
+  module _ (seen : Counts) (x : ℕ) (u : RowsCounted per jit cost n seen x) where
     pub rows_few : x ≤ 100_000_000 → seen.load ≤ n * 40_002_000_000
     rows_few soon =
         le_trans (omega (arith, u.tally))
         (sum_few n 40_002_000_000 _ (λ k h. frames_cost x k (u.taken k) soon h (u.each k h).in_time))
 
-    pub rows_on : (y : ℕ) → x ≤ y → RowsCounted per jit cost n next seen y
+    pub rows_on : (y : ℕ) → x ≤ y → RowsCounted per jit cost n seen y
     rows_on y h =
         record {
-          long = u.long;
           taken = u.taken;
           each = λ k l. counted_on (stream_at per jit k) (row_pos k l) h (u.each k l);
           tally = u.tally;
@@ -186,30 +196,30 @@ module _ (per jit cost : List ℕ) (n : ℕ) (fit : RowsFit per jit cost n) wher
         (λ k l. ap (λ (q : ℕ). q * get_or cost k 0)
         (sym (counted_all (stream_at per jit k) (row_pos k l) (le_trans h (u.low k l)) (u.each k l))))
 
-    module _ (new : List ℕ) (add lower : ℕ) (p : Passed next per cost x n new add lower) where
+    module _ (new : List ℕ) (add lower : ℕ) (p : Passed seen.next per cost x n new add lower) where
       -- a pass counts one frame more of each stream whose next frame has come
-      pub rows_pass : (shortest : ℕ)
-          → RowsCounted per jit cost n new (record { load = seen.load + add; least = lower; shortest = shortest }) x
-      unfolding stepped gained
+      rows_pass : (shortest : ℕ)
+          → RowsCounted per jit cost n
+          (record { next = new; load = seen.load + add; least = lower; shortest = shortest }) x
       rows_pass shortest =
           record {
-            long = p.long;
             taken = more;
-            each = λ k h. rw (p.done k h) (each k h (leb (get_or next k 0) x) refl);
+            each = λ k h. rw (p.done k h) (each k h (leb (get_or seen.next k 0) x) refl);
             tally =
                 ap₂ (λ (a b : ℕ). a + b) u.tally p.tally
-                ∙ sym (sum_add n (λ k. u.taken k * get_or cost k 0) (λ k. gained x (get_or next k 0) (get_or cost k 0)))
-                ∙ sum_ext n _ _ (λ k h. tally k (leb (get_or next k 0) x));
+                ∙ sym
+                (sum_add n (λ k. u.taken k * get_or cost k 0) (λ k. gained x (get_or seen.next k 0) (get_or cost k 0)))
+                ∙ sum_ext n _ _ (λ k h. tally k (leb (get_or seen.next k 0) x));
             low = p.low;
           }
         where
           more : ℕ → ℕ
-          more k = u.taken k + cond (leb (get_or next k 0) x) 1 0
+          more k = u.taken k + cond (leb (get_or seen.next k 0) x) 1 0
 
-          each : (k : ℕ) → k < n → (b : Bool) → leb (get_or next k 0) x ≡ b
+          each : (k : ℕ) → k < n → (b : Bool) → leb (get_or seen.next k 0) x ≡ b
               → CountedTo (stream_at per jit k) x (u.taken k + cond b 1 0)
-              (cond b (get_or next k 0 + get_or per k 0) (get_or next k 0))
-          each k h true e = counted_more (stream_at per jit k) (row_pos k h) (leb-true (get_or next k 0) x e)
+              (cond b (get_or seen.next k 0 + get_or per k 0) (get_or seen.next k 0))
+          each k h true e = counted_more (stream_at per jit k) (row_pos k h) (leb-true (get_or seen.next k 0) x e)
               (u.each k h)
           each k h false e = rw (add-zero (u.taken k)) (u.each k h)
 
@@ -219,12 +229,21 @@ module _ (per jit cost : List ℕ) (n : ℕ) (fit : RowsFit per jit cost n) wher
           tally k false = omega arith
 
       -- and the least next instant rises
-      pub pass_rises : seen.least ≤ x → x ≤ 100_000_000 → seen.least < lower
-      unfolding stepped
+      pass_rises : seen.least ≤ x → x ≤ 100_000_000 → seen.least < lower
       pass_rises h soon =
-          p.high (suc seen.least) (omega arith) (λ k q. rw (p.done k q) (later k q (leb (get_or next k 0) x) refl))
+          p.high (suc seen.least) (omega arith) (λ k q. rw (p.done k q) (later k q (leb (get_or seen.next k 0) x) refl))
         where
-          later : (k : ℕ) → k < n → (b : Bool) → leb (get_or next k 0) x ≡ b
-              → seen.least < cond b (get_or next k 0 + get_or per k 0) (get_or next k 0)
+          later : (k : ℕ) → k < n → (b : Bool) → leb (get_or seen.next k 0) x ≡ b
+              → seen.least < cond b (get_or seen.next k 0 + get_or per k 0) (get_or seen.next k 0)
           later k q true e = omega (arith, u.low k q, row_pos k q)
-          later k q false e = omega (arith, leb-false (get_or next k 0) x e)
+          later k q false e = omega (arith, leb-false (get_or seen.next k 0) x e)
+
+    -- what a pass over the next instants that it is lent ends with
+    pub pass_ends : (items : List ℕ) (add lower shortest : ℕ) → length items ≡ n
+        → Passed (take n seen.next) per cost x n items add lower → seen.least ≤ x → x ≤ 100_000_000
+        → RowsCounted per jit cost n
+        (record { next = items ++ drop n seen.next; load = seen.load + add; least = lower; shortest = shortest }) x
+        × (seen.least < lower)
+    pass_ends items add lower shortest e p h soon =
+        let q = pass_back seen.next per cost x n items add lower e p in
+        (rows_pass _ add lower q shortest, pass_rises _ add lower q h soon)

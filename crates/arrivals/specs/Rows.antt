@@ -1,5 +1,5 @@
 -- Rows of numbers that stand for streams: their load, and how far their frames are counted.
-use Rattle.std.specs.Prelude.{◌≡◌, cond, List, ℕ, ◌+◌, ◌*◌, ◌≤◌, ◌<◌, length, get_or, leb}
+use Rattle.std.specs.Prelude.{◌≡◌, cond, List, ℕ, ◌+◌, ◌*◌, ◌≤◌, ◌<◌, get_or, leb}
 use Rattle.laws.specs.Numbers.{sum}
 use Rattle.meaning.specs.declared.Stream.{Stream}
 use Rattle.meaning.specs.Arrivals.{most_in}
@@ -44,28 +44,16 @@ Low next n z = (k : ℕ) → k < n → z ≤ get_or next k 0
 
 -- of each of the first n streams so many frames are counted, all of which can have come by x: when the next one comes
 -- stands in the row, the load is the wire time of those counted, and no next instant is before the least
-pub record RowsCounted (per jit cost : List ℕ) (n : ℕ) (next : List ℕ) (seen : Counts) (x : ℕ) : Type 0 where
-  pub long : length next ≡ 64
+pub record RowsCounted (per jit cost : List ℕ) (n : ℕ) (seen : Counts) (x : ℕ) : Type 0 where
   pub taken : ℕ → ℕ
-  pub each : (k : ℕ) → k < n → CountedTo (stream_at per jit k) x (taken k) (get_or next k 0)
+  pub each : (k : ℕ) → k < n → CountedTo (stream_at per jit k) x (taken k) (get_or seen.next k 0)
   pub tally : seen.load ≡ sum n (λ k. taken k * get_or cost k 0)
-  pub low : Low next n seen.least
+  pub low : Low seen.next n seen.least
 
 -- a next instant that has come by x moves on by a period
-unfoldable pub stepped : ℕ → ℕ → ℕ → ℕ
+abbrev pub stepped : ℕ → ℕ → ℕ → ℕ
 stepped x a period = cond (leb a x) (a + period) a
 
 -- and adds a wire time
-unfoldable pub gained : ℕ → ℕ → ℕ → ℕ
+abbrev pub gained : ℕ → ℕ → ℕ → ℕ
 gained x a cost = cond (leb a x) cost 0
-
--- one pass over the first i streams, from the next instants old to the next instants new: add is the wire time of what
--- has come by x, and least the least of the new instants
-pub record Passed (old per cost : List ℕ) (x i : ℕ) (new : List ℕ) (add least : ℕ) : Type 0 where
-  pub long : length new ≡ 64
-  pub done : (k : ℕ) → k < i → get_or new k 0 ≡ stepped x (get_or old k 0) (get_or per k 0)
-  pub left : (k : ℕ) → i ≤ k → get_or new k 0 ≡ get_or old k 0
-  pub tally : add ≡ sum i (λ k. gained x (get_or old k 0) (get_or cost k 0))
-  pub few : add ≤ i * 2_000_000
-  pub low : Low new i least
-  pub high : (z : ℕ) → z ≤ 4_294_967_295 → Low new i z → z ≤ least

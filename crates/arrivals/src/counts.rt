@@ -1,13 +1,16 @@
 // Frames counted one by one: the next instant of each stream, and the wire time of those counted so far.
-ghost use Rattle.std.specs.Prelude.{◌≡◌, ℕ, ◌≤◌, ◌<◌, length};
-ghost use Rattle.arrivals.specs.Rows.{RowIn, RowsFit, RowsCounted, Passed, gained};
+ghost use Rattle.std.specs.Prelude.{◌≡◌, ◌≤◌, ◌<◌};
+ghost use Rattle.arrivals.specs.Rows.{gained};
+ghost use Rattle.arrivals.specs.Counted.{Counted};
 
-use crate::{frames_in, frames_wire, next_after, step};
+use crate::{Rows, frames_in, frames_wire, next_after, step};
 
-// The wire time of the frames counted, and the least next instant: with no stream, the largest number. The shortest
-// period tells which way to go on counting is the cheaper one, and nothing more.
+// When the next frame of each stream can come, the wire time of the frames counted, and the least next instant: with no
+// stream, the largest number. The shortest period tells which way to go on counting is the cheaper one, and nothing
+// more.
 #[derive(Clone, Copy)]
 pub struct Counts {
+    pub next: [u32; 64],
     pub load: u64,
     pub least: u32,
     pub shortest: u32,
@@ -17,117 +20,76 @@ pub struct Counts {
 fn gain(x: u32, a: u32, cost: u32) -> u32
     ensures { (result ≡ gained x a cost) × (result ≤ cost) }
 {
-    if a <= x {
-        return cost;
-    }
-    0
+    if a <= x { cost } else { 0 }
 }
 
-// The lesser of two numbers.
-fn lesser(a: u32, b: u32) -> u32
-    ensures { (result ≤ a) × (result ≤ b) × ((z : ℕ) → z ≤ a → z ≤ b → z ≤ result) }
-{
-    if a <= b {
-        return a;
-    }
-    b
-}
-
-// The frames counted at x, from the start.
-pub fn count(
-    next: &mut [u32; 64],
-    per: &[u32; 64],
-    jit: &[u32; 64],
-    cost: &[u32; 64],
-    n: usize,
-    x: u32,
-) -> Counts
-    requires { RowsFit per.now jit.now cost.now n × (x ≤ 100_000_000) × (length next.old ≡ 64) }
-    ensures { RowsCounted per.now jit.now cost.now n
-        next.new result x × (x < result.least) }
-{
-    let mut load: u64 = 0;
-    let mut least: u32 = 4_294_967_295;
-    let mut shortest: u32 = 4_294_967_295;
-    let mut i: usize = 0;
-    while i < n {
-        let t = per[i];
-        let j = jit[i];
-        let c = cost[i];
-        let a = next_after(x, t, j);
-        load = load + frames_wire(frames_in(x, t, j), c);
-        least = lesser(least, a);
-        shortest = lesser(shortest, t);
-        next[i] = a;
-        i += 1;
-    }
-    Counts {
-        load,
-        least,
-        shortest,
+impl Rows {
+    // The frames counted at x, from the start.
+    pub fn counted(&self, x: u32) -> Counts
+        requires { x ≤ 100_000_000 }
+        ensures { Counted self.now result x × (x < result.least) }
+    {
+        let mut seen = Counts {
+            next: [0; 64],
+            load: 0,
+            least: u32::MAX,
+            shortest: u32::MAX,
+        };
+        seen.count(self, x);
+        seen
     }
 }
 
-// What a pass adds, and the least next instant after it.
-#[derive(Clone, Copy)]
-pub struct Added {
-    pub load: u32,
-    pub least: u32,
-}
-
-// One pass: each stream whose next frame has come by x has one more counted.
-fn pass(next: &mut [u32; 64], per: &[u32; 64], cost: &[u32; 64], n: usize, x: u32) -> Added
-    requires { (n ≤ 64) × RowIn 10_000 100_000_000 per.now n × RowIn 0 2_000_000 cost.now n
-        × (x ≤ 100_000_000) × (length next.old ≡ 64) }
-    ensures { Passed next.old per.now cost.now x n
-        next.new result.load result.least }
-{
-    let mut add: u32 = 0;
-    let mut least: u32 = 4_294_967_295;
-    let mut i: usize = 0;
-    while i < n {
-        let a = next[i];
-        let s = step(x, a, per[i]);
-        add = add + gain(x, a, cost[i]);
-        least = lesser(least, s);
-        next[i] = s;
-        i += 1;
-    }
-    Added { load: add, least }
-}
-
-// The frames counted so far brought up to x: by passes until no next instant has come, or, where x is further on than a
-// few periods, from the start.
-pub fn advance(
-    next: &mut [u32; 64],
-    per: &[u32; 64],
-    jit: &[u32; 64],
-    cost: &[u32; 64],
-    n: usize,
-    x: u32,
-    seen: Counts,
-) -> Counts
-    requires { RowsFit per.now jit.now cost.now n × (x ≤ 100_000_000)
-        × RowsCounted per.now jit.now cost.now n next.old seen x }
-    ensures { RowsCounted per.now jit.now cost.now n
-        next.new result x × (x < result.least) }
-{
-    let mut load: u64 = seen.load;
-    let mut least: u32 = seen.least;
-    let shortest = seen.shortest;
-    if least <= x {
-        if shortest <= (x - least) / 4 {
-            return count(next, per, jit, cost, n, x);
+impl Counts {
+    // All frames that can come by x, whatever was counted before.
+    fn count(&mut self, rows: &Rows, x: u32)
+        requires { x ≤ 100_000_000 }
+        ensures { Counted rows.now self.new x × (x < self.new.least) }
+    {
+        let mut load = 0;
+        let mut least = u32::MAX;
+        let mut shortest = u32::MAX;
+        for (i, next) in self.next[..rows.n].iter_mut().enumerate() {
+            let period = rows.per[i];
+            let jitter = rows.jit[i];
+            load += frames_wire(frames_in(x, period, jitter), rows.cost[i]);
+            *next = next_after(x, period, jitter);
+            least = least.min(*next);
+            shortest = shortest.min(period);
         }
+        self.load = load;
+        self.least = least;
+        self.shortest = shortest;
     }
-    while least <= x {
-        let p = pass(next, per, cost, n, x);
-        load = load + p.load as u64;
-        least = p.least;
+
+    // One pass: each stream whose next frame has come by x has one more counted.
+    fn pass(&mut self, rows: &Rows, x: u32)
+        requires { (x ≤ 100_000_000) × Counted rows.now self.old x × (self.old.least ≤ x) }
+        ensures { Counted rows.now self.new x × (self.old.least < self.new.least) }
+    {
+        let mut load = 0;
+        let mut least = u32::MAX;
+        for (i, next) in self.next[..rows.n].iter_mut().enumerate() {
+            load += gain(x, *next, rows.cost[i]);
+            *next = step(x, *next, rows.per[i]);
+            least = least.min(*next);
+        }
+        self.load += load as u64;
+        self.least = least;
     }
-    Counts {
-        load,
-        least,
-        shortest,
+
+    // The frames counted so far brought up to x: by passes until no next instant has come, or, where x is further on
+    // than a few periods, from the start.
+    pub fn advance(&mut self, rows: &Rows, x: u32)
+        requires { (x ≤ 100_000_000) × Counted rows.now self.old x }
+        ensures { Counted rows.now self.new x × (x < self.new.least) }
+    {
+        if self.least <= x && self.shortest <= (x - self.least) / 4 {
+            self.count(rows, x);
+            return;
+        }
+        while self.least <= x {
+            self.pass(rows, x);
+        }
     }
 }

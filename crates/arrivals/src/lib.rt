@@ -7,8 +7,10 @@ ghost use Rattle.meaning.proofs.Later.{next_of};
 ghost use Rattle.arrivals.specs.Rows.{row_stream, stepped};
 
 mod counts;
+mod rows;
 
-pub use counts::{Counts, advance, count};
+pub use counts::Counts;
+pub use rows::Rows;
 
 // The most frames in a closed stretch of x ns.
 pub fn frames_in(x: u32, period: u32, jitter: u32) -> u32
@@ -57,8 +59,5 @@ pub fn step(x: u32, a: u32, period: u32) -> u32
     requires { (x ≤ 200_000_000) × (period ≤ 100_000_000) }
     ensures { result ≡ stepped x a period }
 {
-    if a <= x {
-        return a + period;
-    }
-    a
+    if a <= x { a + period } else { a }
 }

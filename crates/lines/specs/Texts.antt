@@ -1,13 +1,8 @@
--- What the functions that write a text ensure, and the words of a figure.
-use Rattle.std.specs.Prelude.{◌≡◌, List, [], ◌∷◌, ◌++◌, ℕ, length, drop, Result, Ok, Err}
+-- The words of a figure.
+use Rattle.std.specs.Prelude.{List, [], ◌∷◌, ◌++◌, ℕ, Result, Ok, Err}
 use Rattle.meaning.specs.declared.Refusal.{Refusal}
 use Rattle.meaning.specs.Refusals.{values_of}
 use Rattle.meaning.specs.Findings.{octets_in, told, newline}
-
--- the text is in front of the room, the rest keeps its value, and r octets were written
-pub record Wrote (text : List ℕ) (r : ℕ) (before after : List ℕ) : Type 0 where
-  pub count : r ≡ length text
-  pub room : after ≡ text ++ drop r before
 
 -- the words of a refusal that carries these values: late where it carries the bound, and endless
 unfoldable pub refusal_words : ℕ → List ℕ → List ℕ

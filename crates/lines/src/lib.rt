@@ -3,12 +3,14 @@
 
 ghost use Rattle.std.specs.Prelude.{◌≡◌, ◌++◌, ◌+◌, ◌≤◌, length};
 ghost use Rattle.meaning.specs.Findings.{decimal, told, newline, blocked_line, stair_line, refused_line};
-ghost use Rattle.lines.specs.Texts.{Wrote, figure_words, figure_line};
+ghost use Rattle.room.specs.Writing.{Wrote};
+ghost use Rattle.lines.specs.Texts.{figure_words, figure_line};
 
 mod texts;
 
 use meaning::{Refusal, Stair};
-use texts::{put_told, put_word};
+use room::put;
+use texts::put_told;
 
 // A word and a number, and the number that it is held against: blocked cells of the cycle, a bound of the deadline.
 fn put_of(out: &mut [u8], word: &[u8], n: u64, whole: u32) -> usize
@@ -27,7 +29,7 @@ fn put_last(out: &mut [u8], word: &[u8], n: u64) -> usize
         × (result ≡ length word.now + length (decimal n) + 1) }
 {
     let at = put_told(out, word, n);
-    at + put_word(&mut out[at..], b"\n")
+    at + put(&mut out[at..], b"\n")
 }
 
 // Line 1: blocked cells, cycle, runs.
@@ -57,7 +59,7 @@ fn put_verdict(out: &mut [u8], bound: Result<u64, Refusal>, deadline: u32) -> us
         Ok(bound) => put_of(out, b" bound ", bound, deadline),
         Err(why) => match why {
             Refusal::Late { bound } => put_of(out, b" late ", bound as u64, deadline),
-            _ => put_word(out, b" endless"),
+            _ => put(out, b" endless"),
         },
     }
 }
@@ -69,7 +71,7 @@ pub fn put_stream(out: &mut [u8], id: u32, bound: Result<u64, Refusal>, deadline
 {
     let mut at = put_told(out, b"stream ", id as u64);
     at += put_verdict(&mut out[at..], bound, deadline);
-    at + put_word(&mut out[at..], b"\n")
+    at + put(&mut out[at..], b"\n")
 }
 
 // A refused plan's line: number, place.

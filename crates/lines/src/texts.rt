@@ -1,16 +1,9 @@
 // Words and numbers as text, each at the front of a room.
 ghost use Rattle.std.specs.Prelude.{◌≡◌, ◌++◌, ◌+◌, ◌≤◌, length};
 ghost use Rattle.meaning.specs.Findings.{decimal};
-ghost use Rattle.lines.specs.Texts.{Wrote};
+ghost use Rattle.room.specs.Writing.{Wrote};
 
-// A word at the front of the room.
-pub fn put_word(out: &mut [u8], word: &[u8]) -> usize
-    requires { length word.now ≤ length out.old }
-    ensures { Wrote word.now result out.old out.new }
-{
-    out[..word.len()].copy_from_slice(word);
-    word.len()
-}
+use room::put;
 
 // How many digits a number has: 0 has one too.
 fn places(n: u64) -> usize
@@ -39,6 +32,6 @@ pub fn put_told(out: &mut [u8], word: &[u8], n: u64) -> usize
     ensures { Wrote (word.now ++ decimal n) result out.old out.new
         × (result ≡ length word.now + length (decimal n)) }
 {
-    let at = put_word(out, word);
+    let at = put(out, word);
     at + put_decimal(&mut out[at..], n)
 }

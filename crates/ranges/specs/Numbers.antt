@@ -1,8 +1,11 @@
--- The caller's numbers as document 01's records.
-use Rattle.std.specs.Prelude.{ℕ}
+-- The caller's numbers as document 01's records, and what a test of their ranges hands back.
+use Rattle.std.specs.Prelude.{Bool, cond, List, ℕ, Result, Ok, Err}
 use Rattle.meaning.specs.declared.Port.{Port}
 use Rattle.meaning.specs.declared.Slot.{Slot}
 use Rattle.meaning.specs.declared.Stream.{Stream}
+use Rattle.meaning.specs.declared.Refusal.{Refusal}
+use Rattle.meaning.specs.declared.Refusal.TheVariants.{OutOfRange}
+use Rattle.meaning.specs.Ranges.{in_range}
 use Rattle.ranges.specs.declared.PortNumbers.{PortNumbers}
 use Rattle.ranges.specs.declared.StreamNumbers.{StreamNumbers}
 
@@ -22,3 +25,7 @@ stream_of j =
       jitter = j.jitter;
       deadline = j.deadline;
     }
+
+-- a where it is in range, by the tests of its ranges
+abbrev pub tested : {A : Type 0} → List Bool → A → Result A Refusal
+tested tests a = cond (in_range tests) (Ok a) (Err OutOfRange)

@@ -1,12 +1,12 @@
-// The ranges of document 01: the numbers of a call are tested first, and those in range are stored in 32 bits.
+// The ranges of document 01: the numbers of a call are tested, and those in range are stored in 32 bits.
 #![tactic(auto)]
 
-ghost use Rattle.std.specs.Prelude.{◌≡◌, true, ℕ, ◌<◌};
-ghost use Rattle.meaning.specs.Ranges as Meant;
-ghost use Rattle.meaning.specs.Ranges.{port_ranges, slot_ranges, stream_ranges, in_range};
-ghost use Rattle.ranges.specs.Numbers.{port_of, slot_of, stream_of};
+ghost use Rattle.std.specs.Prelude.{◌≡◌, true, false, MatchResult};
+ghost use Rattle.meaning.specs.declared.Refusal.TheVariants.{OutOfRange};
+ghost use Rattle.meaning.specs.Ranges.{within, port_ranges, slot_ranges, stream_ranges};
+ghost use Rattle.ranges.specs.Numbers.{port_of, slot_of, stream_of, tested};
 
-use meaning::{Port, Slot, Stream};
+use meaning::{Port, Refusal, Slot, Stream};
 
 // The numbers of a port, as a caller has them.
 #[derive(Clone, Copy)]
@@ -28,85 +28,85 @@ pub struct StreamNumbers {
     pub deadline: u64,
 }
 
-// Whether x lies from lo to hi, both in range.
-fn within(lo: u64, hi: u64, x: u64) -> bool
-    ensures { result ≡ Meant.within lo hi x }
-{
-    (lo <= x) & (x <= hi)
-}
-
-// Whether the numbers of a port are in range.
-pub fn port_in_range(p: PortNumbers) -> bool
-    ensures { result ≡ in_range (port_ranges (port_of p)) }
-{
-    within(1, 5, p.rate)
-        & within(1_000, 100_000_000, p.cycle)
-        & within(1, 10_000_000, p.guard)
-        & within(0, 10_000_000, p.header)
-}
-
-// Whether the numbers of a slot are in range.
-pub fn slot_in_range(cycle: u32, start: u64, end: u64) -> bool
-    ensures { result ≡ in_range (slot_ranges cycle (slot_of start end)) }
-{
-    (start < end) & (end <= cycle as u64)
-}
-
-// Whether the numbers of a stream are in range, its octets up to a limit.
-pub fn stream_in_range(limit: u64, j: StreamNumbers) -> bool
-    ensures { result ≡ in_range (stream_ranges limit (stream_of j)) }
-{
-    within(0, 65_535, j.id)
-        & within(0, 7, j.priority)
-        & within(64, limit, j.octets)
-        & within(10_000, 100_000_000, j.period)
-        & within(0, 100_000_000, j.jitter)
-        & within(1, 100_000_000, j.deadline)
-}
-
-// The same number in 32 bits.
-fn narrow(x: u64) -> u32
-    requires { x < 4_294_967_296 }
-    ensures { result ≡ x }
-{
-    x as u32
-}
-
-// The numbers of a port in 32 bits.
-pub fn narrow_port(p: PortNumbers) -> Port
-    requires { in_range (port_ranges (port_of p)) ≡ true }
-    ensures { result ≡ port_of p }
-{
-    Port {
-        rate: narrow(p.rate),
-        cycle: narrow(p.cycle),
-        guard: narrow(p.guard),
-        header: narrow(p.header),
+impl From<Port> for PortNumbers {
+    fn from(p: Port) -> PortNumbers
+        ensures { port_of result ≡ p }
+    {
+        PortNumbers {
+            rate: p.rate.into(),
+            cycle: p.cycle.into(),
+            guard: p.guard.into(),
+            header: p.header.into(),
+        }
     }
 }
 
-// The numbers of a slot in 32 bits.
-pub fn narrow_slot(start: u64, end: u64) -> Slot
-    requires { (start < 4_294_967_296) × (end < 4_294_967_296) }
-    ensures { result ≡ slot_of start end }
-{
-    Slot {
-        start: narrow(start),
-        end: narrow(end),
+impl From<Stream> for StreamNumbers {
+    fn from(j: Stream) -> StreamNumbers
+        ensures { stream_of result ≡ j }
+    {
+        StreamNumbers {
+            id: j.id.into(),
+            priority: j.priority.into(),
+            octets: j.octets.into(),
+            period: j.period.into(),
+            jitter: j.jitter.into(),
+            deadline: j.deadline.into(),
+        }
     }
 }
 
-// The numbers of a stream in 32 bits.
-pub fn narrow_stream(j: StreamNumbers) -> Stream
-    requires { (limit : ℕ) × (limit < 4_294_967_296) × (in_range (stream_ranges limit (stream_of j)) ≡ true) }
-    ensures { result ≡ stream_of j }
+// The number x in 32 bits, where it lies from lo to hi, both in range.
+fn number(lo: u32, hi: u32, x: u64) -> Result<u32, Refusal>
+    ensures { MatchResult result (λ y. (within lo hi x ≡ true) × (y ≡ x))
+        (λ why. (within lo hi x ≡ false) × (why ≡ OutOfRange)) }
 {
-    Stream {
-        id: narrow(j.id),
-        priority: narrow(j.priority),
-        octets: narrow(j.octets),
-        period: narrow(j.period),
-        jitter: narrow(j.jitter),
-        deadline: narrow(j.deadline),
+    if u64::from(lo) <= x && x <= u64::from(hi) {
+        Ok(x as u32)
+    } else {
+        Err(Refusal::OutOfRange)
     }
+}
+
+// The port that has these numbers, where they are in range.
+#[tactic(auto, unfolding(meaning::specs::Ranges::port_ranges, laws::specs::Lists::every))]
+pub fn port(p: PortNumbers) -> Result<Port, Refusal>
+    ensures { result ≡ tested (port_ranges (port_of p)) (port_of p) }
+{
+    Ok(Port {
+        rate: number(1, 5, p.rate)?,
+        cycle: number(1_000, 100_000_000, p.cycle)?,
+        guard: number(1, 10_000_000, p.guard)?,
+        header: number(0, 10_000_000, p.header)?,
+    })
+}
+
+// The slot that has these numbers, where they are in range.
+#[tactic(auto, unfolding(meaning::specs::Ranges::slot_ranges, laws::specs::Lists::every))]
+pub fn slot(cycle: u32, start: u64, end: u64) -> Result<Slot, Refusal>
+    ensures { result ≡ tested (slot_ranges cycle (slot_of start end)) (slot_of start end) }
+{
+    if start < end && end <= u64::from(cycle) {
+        Ok(Slot {
+            start: start as u32,
+            end: end as u32,
+        })
+    } else {
+        Err(Refusal::OutOfRange)
+    }
+}
+
+// The stream that has these numbers, where they are in range, its octets up to a limit.
+#[tactic(auto, unfolding(meaning::specs::Ranges::stream_ranges, laws::specs::Lists::every))]
+pub fn stream(limit: u32, j: StreamNumbers) -> Result<Stream, Refusal>
+    ensures { result ≡ tested (stream_ranges limit (stream_of j)) (stream_of j) }
+{
+    Ok(Stream {
+        id: number(0, 65_535, j.id)?,
+        priority: number(0, 7, j.priority)?,
+        octets: number(64, limit, j.octets)?,
+        period: number(10_000, 100_000_000, j.period)?,
+        jitter: number(0, 100_000_000, j.jitter)?,
+        deadline: number(1, 100_000_000, j.deadline)?,
+    })
 }

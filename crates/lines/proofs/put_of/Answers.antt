@@ -1,7 +1,7 @@
 -- `lines::put_of` meets its contract: the second number fills the front of what the first leaves.
 use native.Mathlib.Omega.{arith}
 use Rattle.meaning.specs.Findings.{octets_in, told}
-use Rattle.lines.proofs.Written.{wrote_next}
+use Rattle.room.proofs.Rooms.{wrote_next}
 use Rattle.lines.proofs.put_of.Goals as goal
 
 pub returns : goal.returns

@@ -23,8 +23,8 @@ returns-in-Late c =
     rw (late_words a.deadline a.bound c.in-Err.why c.in-Late.bound c.in-Err.is c.in-Late.is)
     c.put_of-in-Late.ensures.0
 
-pub put_word-requires : goal.put_word-requires
-put_word-requires c =
+pub put-requires : goal.put-requires
+put-requires c =
     let a = c.args in
     let why = c.in-Err.why in
     omega (arith, endless_length a.deadline a.bound why c.in-Err.is (none_but_late why c.in_default.not-Late))
@@ -41,4 +41,4 @@ returns-in_default c =
     let a = c.args in
     let why = c.in-Err.why in
     rw (endless_words a.deadline a.bound why c.in-Err.is (none_but_late why c.in_default.not-Late))
-    c.put_word.ensures
+    c.put.ensures
