@@ -16,9 +16,8 @@ use Rattle.laws.proofs.Without.{mem_get}
 use Rattle.meaning.proofs.PairLoop.{no_run, turned, pair_at, length_turned, total_turned, turned_at, total_next}
 use Rattle.meaning.proofs.PairLoop.{total_part}
 use Rattle.meaning.proofs.StairsLoop.{Ahead}
-use Rattle.stairs.specs.Rows.{runs_in, RunsFit, RowsFit}
+use Rattle.stairs.specs.Rows.{RunsFit}
 use Rattle.stairs.specs.Heads.{key_of, far_of, total_of, done, head_key, Moving}
-use Rattle.stairs.proofs.Rows.{runs_in_length, runs_in_at}
 
 -- ---- a pair's key
 
@@ -95,60 +94,36 @@ module _ {cycle : ℕ} {rs : List Run} (f : RunsFit cycle rs) (i j : ℕ) where
 
 -- ---- where a row moves to
 
-module _ {cycle n : ℕ} {start len : List ℕ} (f : RowsFit cycle start len n) where
-  pub run_count : length (runs_in start len n) ≡ n
-  run_count = runs_in_length start len n (omega (arith, f.starts, f.within)) (omega (arith, f.lens, f.within))
+pub start_below : {cycle : ℕ} {rs : List Run} → RunsFit cycle rs → (k : ℕ) → k < length rs
+    → (get_or rs k no_run).start < cycle
+start_below {rs = rs} f k h = f.below (get_or rs k no_run) (mem_get rs k no_run h)
 
-  run_is : (k : ℕ) → k < n → get_or (runs_in start len n) k no_run
-      ≡ record { start = get_or start k 0; len = get_or len k 0 }
-  run_is = runs_in_at start len n (omega (arith, f.starts, f.within)) (omega (arith, f.lens, f.within))
-
-  pub start_below : (k : ℕ) → k < n → get_or start k 0 < cycle
-  start_below k h =
-      let rs = runs_in start len n in
-      omega (
-        arith,
-        f.runs_fit.below (get_or rs k no_run) (mem_get rs k no_run (omega (arith, run_count))),
-        ap (λ (r : Run). r.start) (run_is k h),
-      )
-
-module _ {cycle n i j t : ℕ} {start len : List ℕ} (m : Moving cycle start len n i j t) where
-  abbrev rs : List Run
-  rs = runs_in start len n
-
-  count : length rs ≡ n
-  count = run_count m.rows
-
+module _ {cycle i j t : ℕ} {rs : List Run} (m : Moving cycle rs i j t) where
   -- the run met there, and its pair
-  module _ (h : j < n) (k : ℕ) (e : k ≡ (i + j) % n) where
-    run_met : get_or (turned rs i) j no_run ≡ record { start = get_or start k 0; len = get_or len k 0 }
-    run_met =
-        turned_at rs i j (omega (arith, count, m.row)) (omega (arith, count))
-        ∙ ap (λ (x : ℕ). get_or rs x no_run) (ap (λ (x : ℕ). (i + j) % x) count ∙ sym e)
-        ∙ run_is m.rows k (omega (arith, mod-lt (i + j) {m = n} (omega arith)))
+  module _ (h : j < length rs) (k : ℕ) (e : k ≡ (i + j) % length rs) where
+    run_met : get_or (turned rs i) j no_run ≡ get_or rs k no_run
+    run_met = turned_at rs i j m.row h ∙ ap (λ (x : ℕ). get_or rs x no_run) (sym e)
 
-    head_far : dist cycle (get_or start i 0) (get_or start k 0) ≡ (pair_at cycle rs i j).far
+    head_far : dist cycle (get_or rs i no_run).start (get_or rs k no_run).start ≡ (pair_at cycle rs i j).far
     unfolding pair_at
-    head_far = ap₂ (λ (a b : Run). dist cycle a.start b.start) (sym (run_is m.rows i m.row)) (sym run_met)
+    head_far = ap (λ (r : Run). dist cycle (get_or rs i no_run).start r.start) (sym run_met)
 
-    head_total : t + get_or len k 0 ≡ (pair_at cycle rs i j).total
+    head_total : t + (get_or rs k no_run).len ≡ (pair_at cycle rs i j).total
     unfolding pair_at
     head_total =
         omega (
           arith,
           m.passed,
-          total_next (turned rs i) j (omega (arith, length_turned rs i, count)),
+          total_next (turned rs i) j (omega (arith, length_turned rs i)),
           ap (λ (r : Run). r.len) run_met,
         )
 
-    pub head_at_most : t + get_or len k 0 ≤ 100_000_000
-    head_at_most = omega (arith, head_total, pair_total_fits m.rows.runs_fit i j)
+    pub head_at_most : t + (get_or rs k no_run).len ≤ 100_000_000
+    head_at_most = omega (arith, head_total, pair_total_fits m.fits i j)
 
-    pub head_key_lem : (d : ℕ) → d ≡ dist cycle (get_or start i 0) (get_or start k 0)
-        → key_of d (t + get_or len k 0) ≡ head_key cycle (runs_in start len n) i j
-    head_key_lem d ed =
-        ap₂ key_of (ed ∙ head_far) head_total
-        ∙ sym (head_live cycle rs i j (omega (arith, count, m.row)) (omega (arith, count)))
+    pub head_key_lem : (d : ℕ) → d ≡ dist cycle (get_or rs i no_run).start (get_or rs k no_run).start
+        → key_of d (t + (get_or rs k no_run).len) ≡ head_key cycle rs i j
+    head_key_lem d ed = ap₂ key_of (ed ∙ head_far) head_total ∙ sym (head_live cycle rs i j m.row h)
 
-  pub head_done : n ≤ j → done ≡ head_key cycle (runs_in start len n) i j
-  head_done h = sym (head_ended cycle rs i j (λ k. omega (arith, count)))
+  pub head_done : length rs ≤ j → done ≡ head_key cycle rs i j
+  head_done h = sym (head_ended cycle rs i j (λ k. omega arith))

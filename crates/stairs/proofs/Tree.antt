@@ -1,34 +1,17 @@
 -- The tree of the heads: its start, a leaf put in, the nodes above it mended, and what the first node says of leaves.
 -- Assumes nothing.
 use mathlib.Core.Path.{◌≡◌, refl, sym, ap, ◌∙◌}
-use mathlib.Core.Logic.{inl, inr, ⊎_elim, by_cases}
+use mathlib.Core.Logic.{by_cases}
 use mathlib.Core.List.{List}
-use Prim.Native.Nat.{ℕ, zero, suc, ◌+◌, ◌-◌, ◌*◌, ◌/◌, ◌%◌, ◌≤◌, ◌<◌}
-use native.Mathlib.Nat.{le_refl}
-use native.Mathlib.Decide.{dec_lt, ℕ_discrete}
+use Prim.Native.Nat.{ℕ, zero, suc, ◌+◌, ◌-◌, ◌*◌, ◌/◌, ◌%◌, ◌≤◌, ◌<◌, min}
+use native.Mathlib.Decide.{dec_lt, dec_le, ℕ_discrete}
 use native.Mathlib.Omega.{arith}
 use lib.ListN.{length, get_or, set, replicate, length-set, get_or-replicate}
 use lib.Seq.{get_or-set_same, get_or-set_other}
 use Rattle.meaning.specs.declared.Run.{Run}
 use Rattle.stairs.specs.Heads.{done, head_key}
-use Rattle.stairs.specs.Tree.{Lesser, NodeRight, Nodes, Standing}
+use Rattle.stairs.specs.Tree.{NodeRight, Nodes, Standing}
 use Rattle.stairs.proofs.HeadRow.{entered, heads_none, heads_set, heads_all}
-
--- ---- the lesser of two
-
-lesser_at : {a b x y r : ℕ} → a ≡ x → b ≡ y → Lesser x y r → Lesser a b r
-lesser_at ea eb l = record {
-  first = omega (arith, l.first);
-  second = omega (arith, l.second);
-  one = ⊎_elim (λ e. inl (e ∙ sym ea)) (λ e. inr (e ∙ sym eb)) l.one;
-}
-
-swapped : {a b r : ℕ} → Lesser a b r → Lesser b a r
-swapped l = record {
-  first = l.second;
-  second = l.first;
-  one = ⊎_elim (λ e. inr e) (λ e. inl e) l.one;
-}
 
 -- ---- the start: no row has a pair
 
@@ -43,8 +26,7 @@ tree_none = record {
   right = λ m a b c.
       let same : (k : ℕ) → k < 64 → get_or (replicate 64 (done * 32)) k 0 ≡ done * 32 =
       λ k h. get_or-replicate 64 k (done * 32) 0 h in
-      lesser_at (same (2 * m) (omega arith)) (same (2 * m + 1) (omega arith))
-      (rw (same m (omega arith)) (record { first = le_refl _; second = le_refl _; one = inl refl }));
+      omega (arith, same m (omega arith), same (2 * m) (omega arith), same (2 * m + 1) (omega arith));
 }
 
 -- ---- a node changed
@@ -53,8 +35,8 @@ tree_none = record {
 kept : (tree : List ℕ) (k v m : ℕ) → ¬ (m ≡ k) → ¬ (2 * m ≡ k) → ¬ (2 * m + 1 ≡ k) → NodeRight tree m
     → NodeRight (set tree k v) m
 kept tree k v m a b c h =
-    lesser_at (get_or-set_other tree k (2 * m) v 0 b) (get_or-set_other tree k (2 * m + 1) v 0 c)
-    (rw (get_or-set_other tree k m v 0 a) h)
+    rw (get_or-set_other tree k m v 0 a, get_or-set_other tree k (2 * m) v 0 b, get_or-set_other tree k (2 * m + 1) v 0 c)
+    h
 
 -- row i's leaf: only the node above it can be wrong
 pub put_leaf : {keys tree : List ℕ} → Nodes keys tree 0 → (i v : ℕ) → i < 32 → v % 32 ≡ i
@@ -85,7 +67,7 @@ put_leaf {keys} {tree} s i v h e = record {
 
 -- the node above node k mended: only the one above that can be wrong
 pub mend_node : {keys tree : List ℕ} (k low r : ℕ) → Nodes keys tree (k / 2) → 1 < k → k < 64 → get_or tree k 0 ≡ low
-    → Lesser low (get_or tree (4 * (k / 2) + 1 - k) 0) r → Nodes keys (set tree (k / 2) r) (k / 2 / 2)
+    → r ≡ min low (get_or tree (4 * (k / 2) + 1 - k) 0) → Nodes keys (set tree (k / 2) r) (k / 2 / 2)
 mend_node {keys} {tree} k low r s a b is l = record {
   long = length-set tree (k / 2) r ∙ s.long;
   keys_long = s.keys_long;
@@ -102,17 +84,23 @@ mend_node {keys} {tree} k low r s a b is l = record {
     at e = ap (λ (z : ℕ). get_or tree z 0) e
 
     -- of the two below one is node k
-    two : Lesser (get_or tree (2 * (k / 2)) 0) (get_or tree (2 * (k / 2) + 1) 0) r
+    two : r ≡ min (get_or tree (2 * (k / 2)) 0) (get_or tree (2 * (k / 2) + 1) 0)
     two =
         by_cases (ℕ_discrete (2 * (k / 2)) k)
-        (λ e. lesser_at (at e ∙ is) (at (omega arith)) l)
-        (λ e. lesser_at (at (omega arith)) (at (omega arith) ∙ is) (swapped l))
+        (λ e. let o : 4 * (k / 2) + 1 - k ≡ 2 * (k / 2) + 1 = omega arith in omega (arith, at e, at o, is, l))
+        (λ e.
+        let o : 4 * (k / 2) + 1 - k ≡ 2 * (k / 2) = omega arith in
+        let p : 2 * (k / 2) + 1 ≡ k = omega arith in
+        omega (arith, at o, at p, is, l))
 
     mended : NodeRight (set tree (k / 2) r) (k / 2)
     mended =
-        lesser_at (get_or-set_other tree (k / 2) (2 * (k / 2)) r 0 (λ y. omega arith))
-        (get_or-set_other tree (k / 2) (2 * (k / 2) + 1) r 0 (λ y. omega arith))
-        (rw (get_or-set_same tree (k / 2) r 0 (omega (arith, s.long))) two)
+        rw (
+          get_or-set_same tree (k / 2) r 0 (omega (arith, s.long)),
+          get_or-set_other tree (k / 2) (2 * (k / 2)) r 0 (λ y. omega arith),
+          get_or-set_other tree (k / 2) (2 * (k / 2) + 1) r 0 (λ y. omega arith),
+        )
+        two
 
 -- ---- the first node
 
@@ -126,10 +114,10 @@ module _ {keys tree : List ℕ} (s : Nodes keys tree 0) where
       let n = s.right (k / 2) (omega arith) (omega arith) (λ x. omega arith) in
       let up = below f (k / 2) (omega arith) (omega arith) (omega arith) in
       by_cases (ℕ_discrete (2 * (k / 2)) k)
-      (λ x. omega (arith, up, n.first, ap (λ (y : ℕ). get_or tree y 0) x))
+      (λ x. omega (arith, up, n, ap (λ (y : ℕ). get_or tree y 0) x))
       (λ x.
       let o : 2 * (k / 2) + 1 ≡ k = omega arith in
-      omega (arith, up, n.second, ap (λ (y : ℕ). get_or tree y 0) o)))
+      omega (arith, up, n, ap (λ (y : ℕ). get_or tree y 0) o)))
 
   -- a node of a row that is not done is the leaf of the row that it names
   named : (f k : ℕ) → 64 ≤ k + f → 1 ≤ k → k < 64 → get_or tree k 0 / 32 < done
@@ -137,12 +125,17 @@ module _ {keys tree : List ℕ} (s : Nodes keys tree 0) where
   named zero k h a b d = absurd (omega arith)
   named (suc f) k h a b d =
       by_cases (dec_lt k 32)
-      (λ l. ⊎_elim
-      (λ e. ap (λ (x : ℕ). get_or tree (32 + x % 32) 0) e
+      (λ l.
+      let n = s.right k a l (λ x. omega arith) in
+      by_cases (dec_le (get_or tree (2 * k) 0) (get_or tree (2 * k + 1) 0))
+      (λ x.
+      let e : get_or tree k 0 ≡ get_or tree (2 * k) 0 = omega arith in
+      ap (λ (x : ℕ). get_or tree (32 + x % 32) 0) e
       ∙ named f (2 * k) (omega arith) (omega arith) (omega arith) (omega (arith, e)) ∙ sym e)
-      (λ e. ap (λ (x : ℕ). get_or tree (32 + x % 32) 0) e
-      ∙ named f (2 * k + 1) (omega arith) (omega arith) (omega arith) (omega (arith, e)) ∙ sym e)
-      (s.right k a l (λ x. omega arith)).one)
+      (λ x.
+      let e : get_or tree k 0 ≡ get_or tree (2 * k + 1) 0 = omega arith in
+      ap (λ (x : ℕ). get_or tree (32 + x % 32) 0) e
+      ∙ named f (2 * k + 1) (omega arith) (omega arith) (omega arith) (omega (arith, e)) ∙ sym e))
       (λ l.
       let o : 32 + (k - 32) ≡ k = omega arith in
       let same = ap (λ (x : ℕ). get_or tree x 0) o in

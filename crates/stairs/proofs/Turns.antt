@@ -23,7 +23,7 @@ use Rattle.meaning.proofs.MergeLoop.{InRows, Merging, Nearest, Moved, merging_no
 use Rattle.meaning.proofs.MergeLoop.{merging_done}
 use Rattle.table.specs.declared.Table.{Table}
 use Rattle.table.specs.Rows.{table_of}
-use Rattle.stairs.specs.Rows.{runs_in, RunsFit, RowsFit}
+use Rattle.stairs.specs.Rows.{RunsFit}
 use Rattle.stairs.specs.Heads.{key_of, far_of, total_of, done, Heads, Moving}
 use Rattle.stairs.specs.Tree.{Standing}
 use Rattle.table.proofs.Rows.{table_with, grown, table_none, table_next}
@@ -33,10 +33,10 @@ use Rattle.stairs.proofs.Tree.{first_least, first_row}
 -- ---- how far the loop has come
 
 -- the table holds the stairs so far, where row i stands at pos i
-pub record SoFar (cycle : ℕ) (rs : List Run) (pos far tot : List ℕ) (made top : ℕ) : Type 0 where
+pub record SoFar (cycle : ℕ) (rs : List Run) (pos : List ℕ) (table : Table) (top : ℕ) : Type 0 where
   pub st : List Stair
   pub merging : Merging (length rs) (pair_at cycle rs) (pairs cycle rs) st (λ i. get_or pos i 0) top
-  pub held : table_with made far tot ≡ table_of st
+  pub held : table ≡ table_of st
 
 -- row i has the nearest head, and its key is k
 pub record Chosen (cycle : ℕ) (rs : List Run) (pos : List ℕ) (i k : ℕ) : Type 0 where
@@ -95,7 +95,7 @@ module _ {cycle : ℕ} {rs : List Run} (f : RunsFit cycle rs) where
 
   -- ---- the start
 
-  pub so_far_start : SoFar cycle rs (replicate 32 0) (replicate 993 0) (replicate 993 0) 0 0
+  pub so_far_start : SoFar cycle rs (replicate 32 0) (table_with 0 (replicate 993 0) (replicate 993 0)) 0
   so_far_start = record {
     st = [];
     merging = merging_none rows (pairs_long cycle rs f.long)
@@ -146,7 +146,7 @@ module _ {cycle : ℕ} {rs : List Run} (f : RunsFit cycle rs) where
       (λ k l. omega (arith, is, first_least s.nodes low e k (omega (arith, f.few))))
       (λ d. omega (arith, is, d)))
 
-  module _ {pos far tot : List ℕ} {made top i k : ℕ} (c : SoFar cycle rs pos far tot made top)
+  module _ {pos : List ℕ} {table : Table} {top i k : ℕ} (c : SoFar cycle rs pos table top)
       (s : Chosen cycle rs pos i k) (long : length pos ≡ 32) where
     head : Stair
     head = pair_at cycle rs i (get_or pos i 0)
@@ -166,12 +166,11 @@ module _ {cycle : ℕ} {rs : List Run} (f : RunsFit cycle rs) where
       room =
           omega (arith, partly_few appended.partly, length-append c.st (head ∷ []), few_stairs)
 
-      pub so_far_room : made < 993
+      pub so_far_room : table.n < 993
       unfolding table_of
       so_far_room = omega (arith, room, ap (λ (x : Table). x.n) c.held)
 
-      pub so_far_stair : (d : ℕ) → d ≡ far_of k
-          → SoFar cycle rs (moved_on pos i) (set far made d) (set tot made t) (made + 1) t
+      pub so_far_stair : (d : ℕ) → d ≡ far_of k → SoFar cycle rs (moved_on pos i) (grown table d t) t
       unfolding head
       so_far_stair d ed = record {
         st = c.st ++ head ∷ [];
@@ -186,8 +185,7 @@ module _ {cycle : ℕ} {rs : List Run} (f : RunsFit cycle rs) where
           total_is = is ∙ s.total_is
 
     -- any other is passed by
-    pub so_far_covered : (t : ℕ) → t ≡ total_of k → t ≤ top
-        → SoFar cycle rs (moved_on pos i) far tot made top
+    pub so_far_covered : (t : ℕ) → t ≡ total_of k → t ≤ top → SoFar cycle rs (moved_on pos i) table top
     so_far_covered t is under = record {
       st = c.st;
       merging = merging_skip rows c.merging (moved pos i on) (omega (arith, s.total_is));
@@ -196,9 +194,9 @@ module _ {cycle : ℕ} {rs : List Run} (f : RunsFit cycle rs) where
 
   -- ---- the end: the nearest head is done
 
-  pub so_far_end : {pos tree far tot : List ℕ} {made top : ℕ} → SoFar cycle rs pos far tot made top
+  pub so_far_end : {pos tree : List ℕ} {table : Table} {top : ℕ} → SoFar cycle rs pos table top
       → Standing cycle rs pos tree → (low : ℕ) → low ≡ get_or tree 1 0 → done * 32 ≤ low
-      → table_with made far tot ≡ table_of (stairs_of (pairs cycle rs))
+      → table ≡ table_of (stairs_of (pairs cycle rs))
   so_far_end {pos} c s low e h =
       c.held ∙ ap table_of (stairs_unique (merging_done rows c.merging ends) (stairs_are (pairs cycle rs)))
     where
@@ -208,14 +206,12 @@ module _ {cycle : ℕ} {rs : List Run} (f : RunsFit cycle rs) where
           is_done f k (get_or pos k 0) (omega (arith, first_least s.nodes low e k few, s.heads.at k few)) hk
 
 -- where row i moves to
-pub moving_on : {cycle n i k : ℕ} {start len pos : List ℕ} → RowsFit cycle start len n
-    → Chosen cycle (runs_in start len n) pos i k → i < n → (t : ℕ) → t ≡ total_of k
-    → Moving cycle start len n i (get_or pos i 0 + 1) t
+pub moving_on : {cycle i k : ℕ} {rs : List Run} {pos : List ℕ} → RunsFit cycle rs → Chosen cycle rs pos i k → (t : ℕ)
+    → t ≡ total_of k → Moving cycle rs i (get_or pos i 0 + 1) t
 unfolding pair_at
-moving_on {n = n} {i = i} {start = start} {len = len} {pos = pos} f s h t e = record {
-  rows = f;
-  row = h;
+moving_on {i = i} {rs = rs} {pos = pos} f s t e = record {
+  fits = f;
+  row = s.near.row;
   passed =
-      e ∙ s.total_is
-      ∙ ap (λ (x : ℕ). all_len (take x (turned (runs_in start len n) i))) (sym (add-one (get_or pos i 0)));
+      e ∙ s.total_is ∙ ap (λ (x : ℕ). all_len (take x (turned rs i))) (sym (add-one (get_or pos i 0)));
 }

@@ -3,7 +3,7 @@ use Rattle.std.specs.Prelude.{◌≡◌, cond, ◌&&◌, List, ℕ, ◌+◌, ◌
 use Rattle.meaning.specs.declared.Run.{Run}
 use Rattle.meaning.specs.Interference.{all_len}
 use Rattle.meaning.proofs.PairLoop.{turned, pair_at}
-use Rattle.stairs.specs.Rows.{runs_in, RowsFit}
+use Rattle.stairs.specs.Rows.{RunsFit}
 
 -- a pair as one number, its key: the nearer pair has the smaller one, and of two as near the one with the larger total
 unfoldable pub key_of : ℕ → ℕ → ℕ
@@ -32,7 +32,7 @@ pub record Heads (cycle : ℕ) (rs : List Run) (pos keys : List ℕ) : Type 0 wh
   pub at : (i : ℕ) → i < 32 → get_or keys i 0 ≡ head_key cycle rs i (get_or pos i 0)
 
 -- row i may stand at its j-th pair: t is the total length met before it
-pub record Moving (cycle : ℕ) (start len : List ℕ) (n i j t : ℕ) : Type 0 where
-  pub rows : RowsFit cycle start len n
-  pub row : i < n
-  pub passed : t ≡ all_len (take j (turned (runs_in start len n) i))
+pub record Moving (cycle : ℕ) (rs : List Run) (i j t : ℕ) : Type 0 where
+  pub fits : RunsFit cycle rs
+  pub row : i < length rs
+  pub passed : t ≡ all_len (take j (turned rs i))

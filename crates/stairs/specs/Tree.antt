@@ -1,17 +1,11 @@
 -- The tree of the heads: 32 leaves, one for each row, and above them nodes that are the lesser of two.
-use Rattle.std.specs.Prelude.{◌≡◌, ◌⊎◌, List, ℕ, ◌+◌, ◌*◌, ◌/◌, ◌%◌, ◌≤◌, ◌<◌, length, get_or}
+use Rattle.std.specs.Prelude.{◌≡◌, List, ℕ, ◌+◌, ◌*◌, ◌/◌, ◌%◌, ◌≤◌, ◌<◌, min, length, get_or}
 use Rattle.meaning.specs.declared.Run.{Run}
 use Rattle.stairs.specs.Heads.{done, Heads}
 
--- r is the lesser of a and b
-pub record Lesser (a b r : ℕ) : Type 0 where
-  pub first : r ≤ a
-  pub second : r ≤ b
-  pub one : (r ≡ a) ⊎ (r ≡ b)
-
 -- node m of a tree is the lesser of the two nodes below it
 abbrev pub NodeRight : List ℕ → ℕ → Type 0
-NodeRight tree m = Lesser (get_or tree (2 * m) 0) (get_or tree (2 * m + 1) 0) (get_or tree m 0)
+NodeRight tree m = get_or tree m 0 ≡ min (get_or tree (2 * m) 0) (get_or tree (2 * m + 1) 0)
 
 -- a tree with these keys: leaf i is row i's key times 32, plus i unless the row is done, and the nodes above are right,
 -- all but one (with 0, all)

@@ -2,13 +2,14 @@
 // The heads are the leaves of a tree, so that the next head of a row is compared with five others and not with all.
 #![tactic(auto)]
 
-ghost use Rattle.std.specs.Prelude.{◌≡◌, List, ℕ, ◌+◌, ◌*◌, ◌/◌, ◌%◌, ◌≤◌, ◌<◌, length, get_or, set, take, replicate};
+ghost use Rattle.std.specs.Prelude.{◌≡◌, List, ℕ, ◌+◌, ◌*◌, ◌/◌, ◌%◌, ◌≤◌, ◌<◌, length, get_or, set, replicate};
 ghost use Rattle.meaning.specs.Runs.{dist};
 ghost use Rattle.meaning.specs.Interference.{pairs, stairs_of};
 ghost use Rattle.table.specs.Rows.{table_of};
-ghost use Rattle.stairs.specs.Rows.{runs_in, RunsFit, RowsFit};
+ghost use Rattle.table.proofs.Rows.{grown};
+ghost use Rattle.stairs.specs.Rows.{RunsFit};
 ghost use Rattle.stairs.specs.Heads.{key_of, far_of, total_of, head_key, Moving};
-ghost use Rattle.stairs.specs.Tree.{Lesser, Nodes, Standing};
+ghost use Rattle.stairs.specs.Tree.{Nodes, Standing};
 
 use meaning::Run;
 use table::Table;
@@ -18,6 +19,7 @@ const DONE: u64 = 576_460_752_303_423_488;
 
 // A pair of row i as a leaf, which is its key times 32, plus i: the nearer pair has the smaller one, and of two as near
 // the one with the larger total.
+#[tactic(auto, unfolding(crate::specs::Heads::key_of))]
 fn leaf(far: u32, total: u32, i: usize) -> u64
     requires { (total ≤ 134_217_727) × (i < 32) }
     ensures { result ≡ key_of far total * 32 + i }
@@ -44,45 +46,29 @@ fn distance(cycle: u32, s: u32, e: u32) -> u32
     requires { (s < cycle) × (e < cycle) × (cycle ≤ 100_000_000) }
     ensures { result ≡ dist cycle s e }
 {
-    if s <= e {
-        return e - s;
-    }
-    e + (cycle - s)
+    if s <= e { e - s } else { e + (cycle - s) }
 }
 
 // The j-th run behind run i, around.
+// Stays: measured slower as (i + j) % n, a division for each pair.
 fn behind(i: usize, j: usize, n: usize) -> usize
     requires { (i < n) × (j < n) × (n ≤ 32) }
     ensures { (result ≡ (i + j) % n) × (result < n) }
 {
-    if i + j < n {
-        return i + j;
-    }
-    i + j - n
+    if i + j < n { i + j } else { i + j - n }
 }
 
 // Row i's head at its j-th pair, where t is the total length of the runs met before it.
-fn head(start: &[u32; 32], len: &[u32; 32], n: usize, cycle: u32, i: usize, j: usize, t: u32) -> u64
-    requires { Moving cycle start.now len.now n i j t }
-    ensures { result ≡ head_key cycle (runs_in start.now len.now n) i j * 32 + i }
+fn head(cycle: u32, runs: &[Run], i: usize, j: usize, t: u32) -> u64
+    requires { Moving cycle runs.now i j t }
+    ensures { result ≡ head_key cycle runs.now i j * 32 + i }
 {
-    if n <= j {
+    if runs.len() <= j {
         return DONE + i as u64;
     }
-    let k = behind(i, j, n);
-    let d = distance(cycle, start[i], start[k]);
-    let l = len[k];
-    leaf(d, t + l, i)
-}
-
-// The lesser of two nodes.
-fn lesser(a: u64, b: u64) -> u64
-    ensures { Lesser a b result }
-{
-    if a < b {
-        return a;
-    }
-    b
+    let met = runs[behind(i, j, runs.len())];
+    let d = distance(cycle, runs[i].start, met.start);
+    leaf(d, t + met.len, i)
 }
 
 // Row i's leaf becomes v, and each node above it again the lesser of the two below. The answer is the least leaf.
@@ -91,13 +77,13 @@ fn put(tree: &mut [u64; 64], i: usize, v: u64) -> u64
     ensures { (result ≡ get_or tree.new 1 0) × (length tree.new ≡ 64)
         × ((keys : List ℕ) → Nodes keys tree.old 0 → Nodes (set keys i (v / 32)) tree.new 0) }
 {
-    let mut k: usize = 32 + i;
-    let mut low: u64 = v;
+    let mut k = 32 + i;
+    let mut low = v;
     tree[k] = low;
     while 1 < k {
         let m = k / 2;
         // The other node below m: the two of them are 2 m and 2 m + 1.
-        low = lesser(low, tree[4 * m + 1 - k]);
+        low = low.min(tree[4 * m + 1 - k]);
         tree[m] = low;
         k = m;
     }
@@ -105,62 +91,50 @@ fn put(tree: &mut [u64; 64], i: usize, v: u64) -> u64
 }
 
 // The tree of all heads, where each row stands at its own run.
-fn heads(start: &[u32; 32], len: &[u32; 32], n: usize, cycle: u32) -> [u64; 64]
-    requires { RowsFit cycle start.now len.now n }
-    ensures { Standing cycle (runs_in start.now len.now n) (replicate 32 0) result }
+fn heads(cycle: u32, runs: &[Run]) -> [u64; 64]
+    requires { RunsFit cycle runs.now }
+    ensures { Standing cycle runs.now (replicate 32 0) result }
 {
-    let mut tree: [u64; 64] = [DONE; 64];
-    let mut i: usize = 0;
-    while i < n {
-        let v = head(start, len, n, cycle, i, 0, 0);
-        put(&mut tree, i, v);
-        i += 1;
+    let mut tree = [DONE; 64];
+    for i in 0..runs.len() {
+        put(&mut tree, i, head(cycle, runs, i, 0, 0));
     }
     tree
 }
 
-// The table of the first n runs of two rows: each time the nearest head, a stair if its total is over the last one's.
-fn merge_rows(start: &[u32; 32], len: &[u32; 32], n: usize, cycle: u32) -> Table
-    requires { RowsFit cycle start.now len.now n }
-    ensures { result ≡ table_of (stairs_of (pairs cycle (runs_in start.now len.now n))) }
+// One stair more, behind the others.
+fn push(table: &mut Table, far: u32, tot: u32)
+    requires { table.old.n < 993 }
+    ensures { table.new ≡ grown table.old far tot }
 {
-    let mut tree = heads(start, len, n, cycle);
-    let mut pos: [usize; 32] = [0; 32];
-    let mut far: [u32; 993] = [0; 993];
-    let mut tot: [u32; 993] = [0; 993];
-    let mut made: usize = 0;
-    let mut top: u32 = 0;
-    let mut low: u64 = tree[1];
+    table.far[table.n] = far;
+    table.tot[table.n] = tot;
+    table.n += 1;
+}
+
+// The table of the runs: each time the nearest head, a stair if its total is over the last one's.
+pub fn build(cycle: u32, runs: &[Run]) -> Table
+    requires { (length runs.now ≤ 32) × RunsFit cycle runs.now }
+    ensures { result ≡ table_of (stairs_of (pairs cycle runs.now)) }
+{
+    let mut tree = heads(cycle, runs);
+    let mut pos = [0; 32];
+    let mut table = Table {
+        n: 0,
+        far: [0; 993],
+        tot: [0; 993],
+    };
+    let mut top = 0;
+    let mut low = tree[1];
     while low < DONE {
         let i = (low % 32) as usize;
         let t = total_of(low);
         if top < t {
-            far[made] = far_of(low);
-            tot[made] = t;
-            made += 1;
+            push(&mut table, far_of(low), t);
             top = t;
         }
-        let j = pos[i] + 1;
-        pos[i] = j;
-        let v = head(start, len, n, cycle, i, j, t);
-        low = put(&mut tree, i, v);
+        pos[i] += 1;
+        low = put(&mut tree, i, head(cycle, runs, i, pos[i], t));
     }
-    Table { n: made, far, tot }
-}
-
-// The table of the first n runs.
-pub fn build(cycle: u32, runs: [Run; 32], n: usize) -> Table
-    requires { (n ≤ 32) × RunsFit cycle (take n runs) }
-    ensures { result ≡ table_of (stairs_of (pairs cycle (take n runs))) }
-{
-    let mut start: [u32; 32] = [0; 32];
-    let mut len: [u32; 32] = [0; 32];
-    let mut i: usize = 0;
-    while i < n {
-        let r = runs[i];
-        start[i] = r.start;
-        len[i] = r.len;
-        i += 1;
-    }
-    merge_rows(&start, &len, n, cycle)
+    table
 }

@@ -1,11 +1,13 @@
--- `stairs::build` meets its contract: the runs are copied into rows, and the rows merged.
-use Prim.Native.Nat.{◌-◌, ◌≤◌}
-use Rattle.stairs.proofs.Rows.{Copied}
+-- `stairs::build` meets its contract: the pairs come by rising key, and those over the last total are stairs.
+use mathlib.Core.Path.{◌≡◌}
+use lib.ListN.{length, get_or}
+use Rattle.stairs.specs.Tree.{Standing}
+use Rattle.stairs.proofs.Turns.{SoFar, left}
 use Rattle.stairs.proofs.build.Given as goal
 
-abbrev pub invariant-loop-i : goal.invariant-loop-i
-invariant-loop-i l =
-    (l.i ≤ l.n) × Copied (λ r. r.start) l.runs l.i l.start × Copied (λ r. r.len) l.runs l.i l.len
+abbrev pub invariant-loop-low : goal.invariant-loop-low
+invariant-loop-low l =
+    Standing l.cycle l.runs l.pos l.tree × SoFar l.cycle l.runs l.pos l.table l.top × (l.low ≡ get_or l.tree 1 0)
 
-abbrev pub decreases-loop-i : goal.decreases-loop-i
-decreases-loop-i l = l.n - l.i
+abbrev pub decreases-loop-low : goal.decreases-loop-low
+decreases-loop-low l = left (length l.runs) l.pos

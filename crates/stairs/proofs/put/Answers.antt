@@ -24,11 +24,11 @@ loop-k-preserved c =
     let k = l.k in (
       omega arith,
       omega arith,
-      length-set l.tree (k / 2) c.lesser-low.result ∙ l.invariant.2,
-      get_or-set_same l.tree (k / 2) c.lesser-low.result 0 (omega (arith, l.invariant.2)),
+      length-set l.tree (k / 2) c.min-low.result ∙ l.invariant.2,
+      get_or-set_same l.tree (k / 2) c.min-low.result 0 (omega (arith, l.invariant.2)),
       λ keys s.
-          mend_node k l.low c.lesser-low.result (l.invariant.4 keys s) (omega arith) l.invariant.1 l.invariant.3
-          c.lesser-low.ensures,
+          mend_node k l.low c.min-low.result (l.invariant.4 keys s) (omega arith) l.invariant.1 l.invariant.3
+          c.min-low.ensures,
     )
 
 pub returns : goal.returns
