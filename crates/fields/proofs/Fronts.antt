@@ -4,23 +4,23 @@ use mathlib.Core.Path.{◌≡◌, refl, sym, ap, ◌∙◌}
 use mathlib.Core.Logic.{inl}
 use mathlib.Core.Bool.{Bool, true, false, not, cond}
 use mathlib.Core.List.{List, [], ◌∷◌}
-use Prim.Native.Nat.{ℕ, suc, ◌+◌, ◌-◌, ◌*◌, ◌≤◌, ◌<◌}
-use native.Mathlib.Nat.{add-zero}
+use Prim.Native.Nat.{ℕ, suc, ◌+◌, ◌-◌, ◌*◌, ◌^◌, ◌≤◌, ◌<◌}
+use native.Mathlib.Nat.{pow-suc}
+use native.Mathlib.Numerals.{add-one}
+use Rattle.meaning.specs.declared.Refusal.{Refusal}
 use native.Mathlib.Omega.{arith}
+use Rattle.std.specs.Prelude.{Result, Ok, Err}
 use lib.Dec.{ltb, eqb}
 use lib.ListN.{length, get_or, take, drop, length-drop, take-append-drop}
 use lib.Seq.{drop-drop, take-suc, get_or-drop, length-take-le}
-use borrow.Author.Tests.{lt-ltb, le-ltb, ltb-false, eq-eqb, ne_eqb}
+use borrow.Author.Tests.{lt-ltb, le-ltb, eq-eqb, ne_eqb}
 use Rattle.meaning.specs.declared.Refusal.TheVariants.{CutShort, UnknownTag, WrongLength}
 use Rattle.meaning.specs.Refusals.{Answer, accepted, refused, unless}
 use Rattle.meaning.specs.Bytes.{number_after, number_at, Field, port_field, slot_field, stream_field}
 use Rattle.meaning.specs.Bytes.{value_length, field_of, front}
 use Rattle.meaning.proofs.Octets.{number_append, number_at_left}
 use Rattle.meaning.proofs.Fields.{front_says}
-use Rattle.fields.specs.declared.FieldAt.{FieldAt}
-use Rattle.fields.specs.declared.FieldAt.TheVariants as case
-use Rattle.fields.specs.declared.ValueAt.{ValueAt}
-use Rattle.fields.specs.declared.ValueAt.TheVariants as value
+use Rattle.fields.specs.declared.Field.{Field as Read}
 use Rattle.fields.specs.Reading.{field_at, value_at, told}
 
 -- ---- numbers
@@ -34,24 +34,19 @@ number_more at w xs h =
     ∙ number_append 0 (take w (drop at xs)) (get_or (drop at xs) w 0 ∷ [])
     ∙ ap (λ (x : ℕ). number_at at w xs * 256 + x) (get_or-drop at xs w 0)
 
-pub number_of_1 : (at : ℕ) (xs : List ℕ) → at + 1 ≤ length xs → number_at at 1 xs ≡ get_or xs at 0
+-- the loop over the octets at a place has made the number n of the first i of them
+abbrev pub NumberSoFar : ℕ → List ℕ → ℕ → ℕ → Type 0
+NumberSoFar at xs n i = (n ≡ number_at at i xs) × (n < 256 ^ i)
+
+pub number_start : (at : ℕ) (xs : List ℕ) → NumberSoFar at xs 0 0
 unfolding number_at number_after
-number_of_1 at xs h = omega (arith, rw add-zero at (number_more at 0 xs (omega arith)))
+number_start at xs = (refl, omega arith)
 
-pub number_of_2 : (at : ℕ) (xs : List ℕ) → at + 2 ≤ length xs
-    → number_at at 2 xs ≡ get_or xs at 0 * 256 + get_or xs (at + 1) 0
-number_of_2 at xs h = omega (arith, number_more at 1 xs (omega arith), number_of_1 at xs (omega arith))
-
-pub number_of_4 : (at : ℕ) (xs : List ℕ) → at + 4 ≤ length xs
-    → number_at at 4 xs
-    ≡ ((get_or xs at 0 * 256 + get_or xs (at + 1) 0) * 256 + get_or xs (at + 2) 0) * 256 + get_or xs (at + 3) 0
-number_of_4 at xs h =
-    omega (
-      arith,
-      number_more at 3 xs (omega arith),
-      number_more at 2 xs (omega arith),
-      number_of_2 at xs (omega arith),
-    )
+-- the next octet x
+pub number_turn : (at i n : ℕ) (xs : List ℕ) (x : ℕ) → at + i < length xs → x ≡ get_or xs (at + i) 0 → x < 256
+    → NumberSoFar at xs n i → NumberSoFar at xs (n * 256 + x) (i + 1)
+number_turn at i n xs x h e b (q, l) =
+    (rw (add-one i, number_more at i xs h) (omega (arith, q, e)), rw (add-one i, pow-suc 256 i) (omega arith))
 
 -- at a place, and at an offset from it
 number_here : (at w : ℕ) (xs : List ℕ) → number_at 0 w (drop at xs) ≡ number_at at w xs
@@ -78,9 +73,9 @@ number_in_value xs at n h offset w k e m =
 -- ---- the field at a place
 
 -- f where its value is whole, and the value's refusal otherwise
-abbrev pub by_value : ValueAt → Field → Answer Field
-by_value value.Whole f = accepted f
-by_value (value.Refused r) f = refused r
+abbrev pub by_value : Result (Unit {0}) Refusal → Field → Answer Field
+by_value (Ok u) f = accepted f
+by_value (Err r) f = refused r
 
 module _ (plan : List ℕ) (at : ℕ) where
   -- the octets from the place on
@@ -91,14 +86,14 @@ module _ (plan : List ℕ) (at : ℕ) where
   left = length-drop at plan
 
   -- fewer than three octets
-  pub field_short : length plan - at < 3 → case.Refused CutShort ≡ field_at (front here)
+  pub field_short : length plan - at < 3 → Err CutShort ≡ field_at (front here)
   unfolding field_at
   field_short h = ap field_at (sym ((front_says here).cut_short.1 (inl (omega (arith, left)))))
 
   -- an unlisted tag
   pub field_unknown : 3 ≤ length plan - at
       → ¬ (number_at at 1 plan ≡ 1) → ¬ (number_at at 1 plan ≡ 2) → ¬ (number_at at 1 plan ≡ 3)
-      → case.Refused UnknownTag ≡ field_at (front here)
+      → Err UnknownTag ≡ field_at (front here)
   unfolding field_at
   field_unknown h a b c =
       let three : 3 ≤ length here = omega (arith, left) in
@@ -107,40 +102,28 @@ module _ (plan : List ℕ) (at : ℕ) where
   -- ---- its value, of n octets
 
   module _ (n : ℕ) where
-    pub value_wrong : ¬ (number_at (at + 1) 2 plan ≡ n) → value.Refused WrongLength ≡ value_at n here
+    pub value_wrong : ¬ (number_at (at + 1) 2 plan ≡ n) → Err WrongLength ≡ value_at n here
     unfolding value_at
     value_wrong h = rw (ne_eqb (number_at 1 2 here) n (λ e. h (sym (number_from at 1 2 plan) ∙ e)))
 
     right : number_at (at + 1) 2 plan ≡ n → eqb (number_at 1 2 here) n ≡ true
     right e = eq-eqb (number_at 1 2 here) n (number_from at 1 2 plan ∙ e)
 
-    pub value_cut : number_at (at + 1) 2 plan ≡ n → length plan - at < 3 + n → value.Refused CutShort ≡ value_at n here
+    pub value_cut : number_at (at + 1) 2 plan ≡ n → length plan - at < 3 + n → Err CutShort ≡ value_at n here
     unfolding value_at
     value_cut e h = rw (right e, lt-ltb (length here) (3 + n) (omega (arith, left)))
 
-    pub value_whole : number_at (at + 1) 2 plan ≡ n → 3 + n ≤ length plan - at → value.Whole ≡ value_at n here
+    pub value_whole : number_at (at + 1) 2 plan ≡ n → 3 + n ≤ length plan - at → Ok tt ≡ value_at n here
     unfolding value_at
     value_whole e h = rw (right e, le-ltb (length here) (3 + n) (omega (arith, left)))
 
-    -- a whole value lies within the plan
-    pub whole_within : at + 3 ≤ length plan → value.Whole ≡ value_at n here → at + 3 + n ≤ length plan
-    unfolding value_at
-    whole_within h = go (eqb (number_at 1 2 here) n) (ltb (length here) (3 + n)) refl
-      where
-        go : (b c : Bool) → ltb (length here) (3 + n) ≡ c
-            → value.Whole ≡ cond b (cond c (value.Refused CutShort) value.Whole) (value.Refused WrongLength)
-            → at + 3 + n ≤ length plan
-        go true true q e = let z : ◌≡◌ {A = ℕ} 0 1 = cc in omega arith
-        go true false q e = omega (arith, left, ltb-false (length here) (3 + n) q)
-        go false c q e = let z : ◌≡◌ {A = ℕ} 0 1 = cc in omega arith
-
   -- of a known tag the value decides
   pub field_by_value : (tag : ℕ) → at + 3 ≤ length plan → number_at at 1 plan ≡ tag → ¬ (value_length tag ≡ 0)
-      → (v : ValueAt) → v ≡ value_at (value_length tag) here
+      → (v : Result (Unit {0}) Refusal) → v ≡ value_at (value_length tag) here
       → field_at (by_value v (field_of tag (take (value_length tag) (drop 3 here)))) ≡ field_at (front here)
   unfolding front unless value_at
   field_by_value tag h e k v q =
-      ap (λ (v : ValueAt). field_at (by_value v f)) q
+      ap (λ (v : Result (Unit {0}) Refusal). field_at (by_value v f)) q
       ∙ rw (le-ltb (length here) 3 (omega (arith, left)), number_here at 1 plan ∙ e, ne_eqb (value_length tag) 0 k)
       (go (eqb (number_at 1 2 here) (value_length tag)) (ltb (length here) (3 + value_length tag)))
     where
@@ -148,7 +131,7 @@ module _ (plan : List ℕ) (at : ℕ) where
       f = field_of tag (take (value_length tag) (drop 3 here))
 
       go : (b c : Bool)
-          → field_at (by_value (cond b (cond c (value.Refused CutShort) value.Whole) (value.Refused WrongLength)) f)
+          → field_at (by_value (cond b (cond c (Err CutShort) (Ok tt)) (Err WrongLength)) f)
           ≡ field_at (cond (not b) (refused WrongLength) (cond c (refused CutShort) (accepted f)))
       go true true = refl
       go true false = refl
@@ -157,7 +140,7 @@ module _ (plan : List ℕ) (at : ℕ) where
 -- ---- what a case tells
 
 -- no two answers have the same case
-pub field_told : (f : FieldAt) (a : Answer Field) → f ≡ field_at a → a ≡ told f
+pub field_told : (f : Result Read Refusal) (a : Answer Field) → f ≡ field_at a → a ≡ told f
 unfolding field_at
 field_told f a e = go a ∙ ap told (sym e)
   where

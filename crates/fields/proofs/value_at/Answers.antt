@@ -3,17 +3,23 @@ use Rattle.std.proofs.Common.{sym, ◌∙◌, arith}
 use Rattle.fields.proofs.Fronts.{value_wrong, value_cut, value_whole}
 use Rattle.fields.proofs.value_at.Goals as goal
 
-pub returns-then-number2-octets : goal.returns-then-number2-octets
-returns-then-number2-octets c =
+pub returns-then-number-octets : goal.returns-then-number-octets
+returns-then-number-octets c =
     let a = c.args in
-    value_wrong a.plan.now a.at a.octets (λ e. c.if-number2-octets.true (c.number2.ensures ∙ e))
+    record { is = value_wrong a.plan.now a.at a.octets (λ e. c.if-number-octets.true (c.number.ensures ∙ e)); whole = tt }
 
 pub returns-then-plan-at : goal.returns-then-plan-at
 returns-then-plan-at c =
     let a = c.args in
-    value_cut a.plan.now a.at a.octets (sym c.number2.ensures ∙ c.if-number2-octets.false) (omega arith)
+    record {
+      is = value_cut a.plan.now a.at a.octets (sym c.number.ensures ∙ c.if-number-octets.false) (omega arith);
+      whole = tt;
+    }
 
 pub returns : goal.returns
 returns c =
     let a = c.args in
-    value_whole a.plan.now a.at a.octets (sym c.number2.ensures ∙ c.if-number2-octets.false) (omega arith)
+    record {
+      is = value_whole a.plan.now a.at a.octets (sym c.number.ensures ∙ c.if-number-octets.false) (omega arith);
+      whole = omega arith;
+    }
