@@ -72,7 +72,7 @@ settle-requires c =
       c.requires.0,
       l.invariant.0,
       omega (arith, base_few at, c.from.ensures),
-      own.fits.wire_most,
+      omega (arith, own.fits.wire_most),
       frame_under (table_of c.args.stairs.now) c.requires.0.grows (asked_of own) own.fits r.per r.jit r.cost r.n
           c.args.frames c.requires.1 l.counter c.from.result l.come l.later (numbers at) c.loop-test.true l.w l.best
           l.invariant.3,
@@ -114,7 +114,7 @@ loop-preserved c =
     let w = c.settle.result in
     let u = c.settle.ensures in
     let larger : c.max-best.result ≡ max l.best (w + own.wire - l.come) = search rules in (
-      counted_on_to r c.settle.new.seen w (w + own.wire) u.0 (omega arith),
+      counted_on_to r u.0 (omega arith),
       (sent (goal.at.loop-preserved c).After-settle).0,
       numbers_next (asked_of own) own.fits l.counter l.base l.come l.later l.invariant.2 c.step-later.result
           c.step-later.ensures,
