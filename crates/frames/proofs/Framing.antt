@@ -16,9 +16,10 @@ use Rattle.meaning.proofs.Responses.{wait_room, wait_under, wait_inside, wait_ar
 use Rattle.meaning.proofs.Later.{next_of, early_zero, early_next, early_soon}
 use Rattle.meaning.proofs.FewFrames.{worst_of, worst_none, worst_more}
 use Rattle.meaning.proofs.Demands.{wait_cold, wait_warm}
-use Rattle.search.specs.declared.Own.{Own}
+
 use Rattle.arrivals.specs.Rows.{stepped}
-use Rattle.search.specs.Searches.{OwnFits, own_stream, row_demand, Closes}
+use Rattle.search.specs.Asked.{Asked, OwnFits, own_stream, row_demand}
+use Rattle.search.specs.Searches.{Closes}
 use Rattle.frames.specs.Windows.{BesideIn, WorstFor}
 use Rattle.arrivals.proofs.Counting.{stepped_came}
 use Rattle.frames.proofs.RowStreams.{most_own, early_own, wait_rows}
@@ -26,17 +27,17 @@ use Rattle.frames.proofs.RowStreams.{most_own, early_own, wait_rows}
 -- ---- the numbers that go with a frame
 
 -- the last frame that can come at 0
-abbrev pub first : Own → ℕ
+abbrev pub first : Asked → ℕ
 first o = most_in (own_stream o) 0
 
 -- of the frame that is k behind it: what it waits for besides the load, when it can come, and when the next one can
-pub record FrameNumbers (o : Own) (k base come later : ℕ) : Type 0 where
+pub record FrameNumbers (o : Asked) (k base come later : ℕ) : Type 0 where
   pub base_is : base ≡ o.lower + (first o + k - 1) * o.wire
   pub come_is : come ≡ earliest (own_stream o) (first o + k)
   pub later_is : later ≡ earliest (own_stream o) (first o + k + 1)
   pub past_zero : 0 < later
 
-module _ (o : Own) (fits : OwnFits o) where
+module _ (o : Asked) (fits : OwnFits o) where
   stream_pos : 0 < o.period
   stream_pos = omega (arith, fits.period_least)
 
@@ -86,7 +87,7 @@ sent_later w wire sent e = omega arith
 -- ---- the frames of a busy window
 
 -- k frames are done: best is the largest response of them, and the search for the wait of the next one is at w
-pub record FramesDone (v : ℕ → ℕ) (o : Own) (per jit cost : List ℕ) (n frames k w best : ℕ) : Type 0 where
+pub record FramesDone (v : ℕ → ℕ) (o : Asked) (per jit cost : List ℕ) (n frames k w best : ℕ) : Type 0 where
   pub best_is : (s : BesideIn v o per jit cost n frames)
       → best ≡ worst_of s.beside.rate v o.lower s.beside.rest s.beside.own s.b
       (most_in s.beside.own 0) k
@@ -94,7 +95,7 @@ pub record FramesDone (v : ℕ → ℕ) (o : Own) (per jit cost : List ℕ) (n f
       → Under (wait_load s.beside.rate v o.lower s.beside.rest s.beside.own
       (most_in s.beside.own 0 + k)) w
 
-module _ (v : ℕ → ℕ) (v_grows : Mono v) (o : Own) (fits : OwnFits o) (per jit cost : List ℕ) (n frames : ℕ) where
+module _ (v : ℕ → ℕ) (v_grows : Mono v) (o : Asked) (fits : OwnFits o) (per jit cost : List ℕ) (n frames : ℕ) where
   abbrev L : ℕ
   L = o.lower
 

@@ -16,9 +16,8 @@ use Rattle.meaning.specs.Arrivals.{most_in, earliest}
 use Rattle.meaning.specs.Response.{ahead, load, busy_load, wait_load}
 use Rattle.meaning.proofs.Later.{later_in, later_load}
 use Rattle.meaning.proofs.FewFrames.{calm_load}
-use Rattle.search.specs.declared.Own.{Own}
 use Rattle.arrivals.specs.Rows.{row_stream, stream_at, row_load, RowIn}
-use Rattle.search.specs.Searches.{own_stream, calm_own, row_demand, row_busy}
+use Rattle.search.specs.Asked.{Asked, own_stream, calm_own, row_demand, row_busy}
 use Rattle.frames.specs.Windows.{RowsOf, Beside}
 use Rattle.arrivals.proofs.Arriving.{arrivals_alike, later_computed}
 
@@ -81,7 +80,7 @@ module _ (rate : ℕ) (js : List Stream) (per jit cost : List ℕ) (n : ℕ) (of
       ∙ later_computed (at k) x) (cost_at k h))
 
 -- the stream asked about, beside those of the rows
-module _ (o : Own) (per jit cost : List ℕ) (n : ℕ) (s : Beside o per jit cost n) where
+module _ (o : Asked) (per jit cost : List ℕ) (n : ℕ) (s : Beside o per jit cost n) where
   pub most_own : (x : ℕ) → most_in (own_stream o) x ≡ most_in s.own x
   most_own = (arrivals_alike (own_stream o) s.own s.period_is s.jitter_is).0
 

@@ -7,7 +7,7 @@ use Rattle.meaning.specs.Wire.{wire_time}
 use Rattle.meaning.specs.Arrivals.{most_in}
 use Rattle.meaning.specs.Response.{ahead, busy_load}
 use Rattle.meaning.proofs.FewFrames.{worst_of}
-use Rattle.search.specs.declared.Own.{Own}
+use Rattle.search.specs.Asked.{Asked}
 
 -- ---- the streams that rows of numbers stand for
 
@@ -19,7 +19,7 @@ pub record RowsOf (rate : ℕ) (js : List Stream) (per jit cost : List ℕ) (n :
   pub costs : take n cost ≡ map (λ j. wire_time rate j.octets) js
 
 -- the stream asked about, and others beside it: the rows stand for those of equal or higher priority
-pub record Beside (o : Own) (per jit cost : List ℕ) (n : ℕ) : Type 0 where
+pub record Beside (o : Asked) (per jit cost : List ℕ) (n : ℕ) : Type 0 where
   pub rate : ℕ
   pub own : Stream
   pub rest : List Stream
@@ -30,7 +30,7 @@ pub record Beside (o : Own) (per jit cost : List ℕ) (n : ℕ) : Type 0 where
   pub some_period : (j : Stream) → Mem j rest → 0 < j.period
 
 -- and its busy window, with that many frames from the last that can come at 0 on
-pub record BesideIn (v : ℕ → ℕ) (o : Own) (per jit cost : List ℕ) (n frames : ℕ) : Type 0 where
+pub record BesideIn (v : ℕ → ℕ) (o : Asked) (per jit cost : List ℕ) (n frames : ℕ) : Type 0 where
   pub beside : Beside o per jit cost n
   pub b : ℕ
   pub busy : Least (busy_load beside.rate v o.lower beside.rest beside.own) b
@@ -40,7 +40,7 @@ pub record BesideIn (v : ℕ → ℕ) (o : Own) (per jit cost : List ℕ) (n fra
 -- ---- what is computed from them
 
 -- r is the largest response of that many frames, whichever streams the numbers stand for
-abbrev pub WorstFor : (v : ℕ → ℕ) (o : Own) (per jit cost : List ℕ) (n frames r : ℕ) → Type 0
+abbrev pub WorstFor : (v : ℕ → ℕ) (o : Asked) (per jit cost : List ℕ) (n frames r : ℕ) → Type 0
 WorstFor v o per jit cost n frames r =
     (s : BesideIn v o per jit cost n frames)
     → r ≡ worst_of s.beside.rate v o.lower s.beside.rest s.beside.own s.b (most_in s.beside.own 0)

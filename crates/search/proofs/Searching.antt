@@ -11,50 +11,56 @@ use Rattle.laws.specs.Numbers.{Least, Mono}
 use Rattle.laws.proofs.Sums.{sum_le}
 use Rattle.laws.proofs.Leasts.{Under, under_step, under_least, under_over}
 use Rattle.meaning.specs.Arrivals.{most_in}
+use Rattle.meaning.specs.declared.Stair.{Stair}
 use Rattle.meaning.specs.Interference.{by_stairs, last_total}
 use Rattle.meaning.proofs.Arrivals.{counted, most_grows}
-use Rattle.table.specs.Lookup.{stairs_in, all_in}
+use Rattle.table.specs.Lookup.{paired}
+use Rattle.table.specs.declared.Stairs.{Stairs}
 use Rattle.arrivals.specs.declared.counts.Counts.{Counts}
-use Rattle.search.specs.declared.Sizes.{Sizes}
-use Rattle.search.specs.declared.Own.{Own}
+use Rattle.arrivals.specs.declared.rows.Rows.{Rows}
 use Rattle.arrivals.specs.Rows.{stream_at, row_load, RowsFit, RowsCounted}
-use Rattle.search.specs.Searches.{table_of, TableBounds, OwnFits, own_stream, row_demand, row_busy, Settled, Closes}
-use Rattle.arrivals.proofs.Counting.{rows_all}
+use Rattle.search.specs.Asked.{Asked, OwnFits, own_stream, row_demand, row_busy}
+use Rattle.search.specs.declared.own.Own.{Own}
+use Rattle.search.specs.Searches.{table_of, all_of, TableBounds, asked_of, Counted, demand, busy, NoneCloses, Closes}
+use Rattle.arrivals.proofs.Counting.{rows_few, rows_on, rows_all}
 
 -- ---- interference
 
-module _ (far tot : List ℕ) (g : Sizes) (fit : TableBounds far tot g) where
+module _ (s : Stairs) (fit : TableBounds s) where
   abbrev v : ℕ → ℕ
-  v = table_of far tot g
+  v = table_of s
 
   abbrev all : ℕ
-  all = all_in tot g.m
+  all = all_of s
+
+  abbrev stairs : List Stair
+  stairs = paired s.far.now s.tot.now
 
   -- in the cycle under way it is at most all blocked cells and V(0)
-  table_round : (t : ℕ) → v t ≤ t / g.cycle * all + (all + v 0)
+  table_round : (t : ℕ) → v t ≤ t / s.cycle * all + (all + v 0)
   unfolding by_stairs
   table_round t =
-      let some = fit.fits.some_cycle in
+      let some = s.fits.some_cycle in
       let low = mod-lt t some in
-      let within = fit.grows (t % g.cycle) g.cycle (omega arith) in
+      let within = fit.grows (t % s.cycle) s.cycle (omega arith) in
       let quotient = ap (λ (q : ℕ). q * all) (div-eq_of_lt low) in
-      let rest = ap (last_total 0 (stairs_in far tot g.m)) (mod-eq_of_lt low) in
+      let rest = ap (last_total 0 stairs) (mod-eq_of_lt low) in
       let whole = ap (λ (q : ℕ). q * all) (div_self some) in
-      let again = ap (last_total 0 (stairs_in far tot g.m)) (mod_self g.cycle) in
+      let again = ap (last_total 0 stairs) (mod_self s.cycle) in
       let none = ap (λ (q : ℕ). q * all) (div-eq_of_lt some) in
-      let first = ap (last_total 0 (stairs_in far tot g.m)) (mod-eq_of_lt some) in
+      let first = ap (last_total 0 stairs) (mod-eq_of_lt some) in
       omega arith
 
   -- so that it fits 64 bits with room to spare
   pub table_most : (t : ℕ) → t ≤ 102_000_000 → v t ≤ 10_300_000_000_000_000
   table_most t h =
-      let cycles = le_trans (div-le_self t g.cycle) h in
+      let cycles = le_trans (div-le_self t s.cycle) h in
       omega (
         arith,
         table_round t,
         fit.all_most,
         fit.first_most,
-        mul-le-mul {n₁ = t / g.cycle} {m₁ = all}
+        mul-le-mul {n₁ = t / s.cycle} {m₁ = all}
             {n₂ = 102_000_000} {m₂ = 100_000_000} cycles fit.all_most,
       )
 
@@ -73,7 +79,7 @@ module _ (per jit cost : List ℕ) (n : ℕ) (fit : RowsFit per jit cost n) wher
     unfolding row_demand
     row_demand_mono base off x y h = omega (arith, row_load_mono x y h, v_grows (x + off) (y + off) (omega arith))
 
-    pub row_busy_mono : (own : Own) → OwnFits own → Mono (row_busy v per jit cost n own)
+    pub row_busy_mono : (own : Asked) → OwnFits own → Mono (row_busy v per jit cost n own)
     unfolding row_busy
     row_busy_mono own fits x y h =
         omega (
@@ -85,21 +91,21 @@ module _ (per jit cost : List ℕ) (n : ℕ) (fit : RowsFit per jit cost n) wher
         )
 
   -- what a try asks for, with all frames in w counted
-  pub tried : (v : ℕ → ℕ) (base off w : ℕ) (next : List ℕ) (seen : Counts) (blocked : ℕ)
-      → RowsCounted per jit cost n next seen w → w < seen.least → blocked ≡ v (w + off)
+  pub tried : (v : ℕ → ℕ) (base off w : ℕ) (seen : Counts) (blocked : ℕ)
+      → RowsCounted per jit cost n seen w → w < seen.least → blocked ≡ v (w + off)
       → base + seen.load + blocked ≡ row_demand v per jit cost n base off w
   unfolding row_demand
-  tried v base off w next seen blocked u past e = omega (arith, rows_all per jit cost n fit next seen w u past)
+  tried v base off w seen blocked u past e = omega (arith, rows_all per jit cost n fit seen w u past)
 
 -- with own's frames, a try is one of the busy window
-pub tried_busy : (v : ℕ → ℕ) (per jit cost : List ℕ) (n : ℕ) (own : Own) (base w : ℕ)
+pub tried_busy : (v : ℕ → ℕ) (per jit cost : List ℕ) (n : ℕ) (own : Asked) (base w : ℕ)
     → base ≡ own.lower + most_in (own_stream own) w * own.wire
     → row_demand v per jit cost n base 0 w ≡ row_busy v per jit cost n own w
 unfolding row_demand row_busy
 tried_busy v per jit cost n own base w e = omega (arith, ap v (add-zero w))
 
 -- own's frames, a load that is no more than that of the rows, and the interference ask for no more than the window does
-pub tried_under : (v : ℕ → ℕ) (per jit cost : List ℕ) (n : ℕ) (own : Own) (base load blocked w : ℕ)
+pub tried_under : (v : ℕ → ℕ) (per jit cost : List ℕ) (n : ℕ) (own : Asked) (base load blocked w : ℕ)
     → base ≡ own.lower + most_in (own_stream own) w * own.wire → load ≤ row_load per jit cost n w → blocked ≡ v w
     → base + load + blocked ≤ row_busy v per jit cost n own w
 unfolding row_busy
@@ -116,20 +122,13 @@ module _ {f : ℕ → ℕ} {w y : ℕ} (u : Under f w) (e : y ≡ f w) where
   pub search_goes_on : Mono f → Under f y
   search_goes_on mono = rw e (under_step mono u)
 
-  -- w covers it, and is no longer than the horizon; or y is over the horizon
-  pub window_closes : y ≤ w → w ≤ 100_000_000 → Settled f w
-  window_closes h soon = record { least = λ l. search_closes h; none = λ l. absurd (omega arith) }
-
-  pub window_none : Mono f → 100_000_000 < y → Settled f 100_000_001
-  window_none mono h = record { least = λ l. absurd (omega arith); none = λ l. under_over (search_goes_on mono) h }
+  -- w does not, and y is over the horizon
+  pub search_none : Mono f → 100_000_000 < y → NoneCloses f
+  search_none mono h = under_over (search_goes_on mono) h
 
 -- where no number below y closes, none below a lesser one does
 pub under_below : {f : ℕ → ℕ} {y z : ℕ} → Under f y → z ≤ y → Under f z
 under_below u h = record { under = λ x c. le_trans h (u.under x c) }
-
--- where none up to the horizon closes, there is no window
-pub window_over : {f : ℕ → ℕ} {w : ℕ} → Under f w → 100_000_000 < w → Settled f w
-window_over u h = record { least = λ l. absurd (omega arith); none = λ l. under_over u h }
 
 -- where some number up to the horizon closes, the search never passes the horizon
 pub under_soon : {f : ℕ → ℕ} {w : ℕ} → Under f w → Closes f → w ≤ 100_000_000
@@ -140,3 +139,19 @@ pub base_soon : (v : ℕ → ℕ) (per jit cost : List ℕ) (n base off : ℕ) �
     → base ≤ 100_000_000
 unfolding row_demand
 base_soon v per jit cost n base off (x, closes, soon) = omega arith
+
+-- ---- over the code's structs
+
+module _ (s : Stairs) (fit : TableBounds s) (r : Rows) where
+  -- what a try sums up fits 64 bits with room to spare
+  pub loads_few : (seen : Counts) (w : ℕ) → Counted r seen w → w ≤ 100_000_000 → seen.load ≤ 2_560_128_000_000
+  loads_few seen w u soon = omega (arith, r.fit.few, rows_few r.per r.jit r.cost r.n r.fit seen w u soon)
+
+  pub demand_grows : (base off : ℕ) → Mono (demand s r base off)
+  demand_grows = row_demand_mono r.per r.jit r.cost r.n r.fit (table_of s) fit.grows
+
+  pub busy_grows : (o : Own) → Mono (busy s r o)
+  busy_grows o = row_busy_mono r.per r.jit r.cost r.n r.fit (table_of s) fit.grows (asked_of o) o.fits
+
+pub counted_on_to : (r : Rows) (seen : Counts) (x y : ℕ) → Counted r seen x → x ≤ y → Counted r seen y
+counted_on_to r seen x y u h = rows_on r.per r.jit r.cost r.n r.fit seen x u y h

@@ -1,63 +1,64 @@
--- Least numbers that close over rows of streams: what a wait and a busy window ask for.
-use Rattle.std.specs.Prelude.{List, ℕ, ◌+◌, ◌*◌, ◌≤◌, ◌<◌}
+-- Least numbers that close over rows of streams, as the code has them: lent stairs, rows, and the stream asked about.
+use Rattle.std.specs.Prelude.{ℕ, ◌≤◌, length, Option, MatchOption}
 use Rattle.laws.specs.Numbers.{Least, Mono}
-use Rattle.meaning.specs.Arrivals.{most_in}
-use Rattle.meaning.specs.Interference.{by_stairs}
+use Rattle.laws.proofs.Leasts.{Under}
 use Rattle.meaning.specs.declared.Stream.{Stream}
-use Rattle.table.specs.Lookup.{stairs_in, all_in, TableFits}
-use Rattle.search.specs.declared.Sizes.{Sizes}
-use Rattle.search.specs.declared.Own.{Own}
-use Rattle.arrivals.specs.Rows.{row_stream, row_load}
+use Rattle.table.specs.Lookup.{all_in, stairs_v}
+use Rattle.table.specs.declared.Stairs.{Stairs}
+use Rattle.arrivals.specs.Rows.{RowsCounted}
+use Rattle.arrivals.specs.declared.counts.Counts.{Counts}
+use Rattle.arrivals.specs.declared.rows.Rows.{Rows}
+use Rattle.search.specs.Asked.{Asked, asked, own_stream, row_demand, row_busy}
+use Rattle.search.specs.declared.own.Own.{Own}
 
 -- ---- interference
 
--- V(t), as it is read from stored stairs
-abbrev pub table_v : (cycle : ℕ) (far tot : List ℕ) (m : ℕ) → ℕ → ℕ
-table_v cycle far tot m = by_stairs cycle (all_in tot m) (stairs_in far tot m)
+-- V(t), as it is read from stairs, and all blocked cells
+abbrev pub table_of : Stairs → ℕ → ℕ
+table_of s = stairs_v s.cycle s.far.now s.tot.now
 
-abbrev pub table_of : (far tot : List ℕ) → Sizes → ℕ → ℕ
-table_of far tot g = table_v g.cycle far tot g.m
+abbrev pub all_of : Stairs → ℕ
+all_of s = all_in s.tot.now (length s.tot.now)
 
 -- stairs whose V grows, from a number that is no longer than the horizon
-pub record TableBounds (far tot : List ℕ) (g : Sizes) : Type 0 where
-  pub fits : TableFits g.cycle far tot g.m
-  pub all_most : all_in tot g.m ≤ 100_000_000
-  pub first_most : table_of far tot g 0 ≤ 100_000_000
-  pub grows : Mono (table_of far tot g)
+pub record TableBounds (s : Stairs) : Type 0 where
+  pub all_most : all_of s ≤ 100_000_000
+  pub first_most : table_of s 0 ≤ 100_000_000
+  pub grows : Mono (table_of s)
 
--- ---- loads
+-- ---- what the code's structs stand for
 
--- numbers in range, of the stream asked about
-pub record OwnFits (own : Own) : Type 0 where
-  pub lower_most : own.lower ≤ 2_000_000
-  pub wire_least : 1 ≤ own.wire
-  pub wire_most : own.wire ≤ 2_000_000
-  pub period_least : 10_000 ≤ own.period
-  pub period_most : own.period ≤ 100_000_000
-  pub jitter_most : own.jitter ≤ 100_000_000
+-- the numbers of the stream asked about, and it as a stream
+abbrev pub asked_of : Own → Asked
+asked_of o = asked o.lower o.wire o.period o.jitter
 
--- it as a stream, and without jitter and lower priorities
-abbrev pub own_stream : Own → Stream
-own_stream own = row_stream own.period own.jitter
+abbrev pub asked_stream : Own → Stream
+asked_stream o = own_stream (asked_of o)
 
-abbrev pub calm_own : Own → Own
-calm_own own = record { lower = 0; wire = own.wire; period = own.period; jitter = 0 }
+-- the frames of the rows' streams, counted up to x
+abbrev pub Counted : Rows → Counts → ℕ → Type 0
+Counted r seen x = RowsCounted r.per r.jit r.cost r.n seen x
 
--- base, the load of the rows in x, and the interference of x and off
-unfoldable pub row_demand : (v : ℕ → ℕ) (per jit cost : List ℕ) (n base off : ℕ) → ℕ → ℕ
-row_demand v per jit cost n base off x = base + row_load per jit cost n x + v (x + off)
+-- what a wait asks for, and what a busy window of own does
+abbrev pub demand : Stairs → Rows → (base off : ℕ) → ℕ → ℕ
+demand s r base off = row_demand (table_of s) r.per r.jit r.cost r.n base off
 
--- L, the frames of own in x, the load of the rows, and the interference of x
-unfoldable pub row_busy : (v : ℕ → ℕ) (per jit cost : List ℕ) (n : ℕ) (own : Own) → ℕ → ℕ
-row_busy v per jit cost n own x =
-    own.lower + (most_in (own_stream own) x * own.wire + row_load per jit cost n x) + v x
+abbrev pub busy : Stairs → Rows → Own → ℕ → ℕ
+busy s r o = row_busy (table_of s) r.per r.jit r.cost r.n (asked_of o)
 
 -- ---- answers of a search
 
--- r is the least number that closes, where it is no longer than the horizon, and else none up to the horizon closes
-pub record Settled (f : ℕ → ℕ) (r : ℕ) : Type 0 where
-  pub least : r ≤ 100_000_000 → Least f r
-  pub none : 100_000_000 < r → (x : ℕ) → x ≤ 100_000_000 → ¬ (f x ≤ x)
+-- no number up to the horizon closes
+abbrev pub NoneCloses : (ℕ → ℕ) → Type 0
+NoneCloses f = (x : ℕ) → x ≤ 100_000_000 → ¬ (f x ≤ x)
+
+-- the least number that closes, no longer than the horizon; none where no number up to the horizon closes
+abbrev pub Settled : (f : ℕ → ℕ) → Option ℕ → Type 0
+Settled f r = MatchOption r (NoneCloses f) (λ w. Least f w × (w ≤ 100_000_000))
+
+-- a number up to the horizon that none which closes is below; none where no number up to the horizon closes
+abbrev pub Hastened : (f : ℕ → ℕ) → Option ℕ → Type 0
+Hastened f r = MatchOption r (NoneCloses f) (λ w. Under f w × (w ≤ 100_000_000))
 
 -- some number up to the horizon closes
 abbrev pub Closes : (ℕ → ℕ) → Type 0

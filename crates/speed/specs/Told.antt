@@ -1,17 +1,22 @@
--- Numbers as the records that the response bound takes, and its answer as a number.
-use Rattle.std.specs.Prelude.{ℕ}
-use Rattle.bound.specs.declared.Response.{Response}
-use Rattle.bound.specs.declared.Response.TheVariants.{Within, Endless}
-use Rattle.search.specs.declared.Sizes.{Sizes}
-use Rattle.search.specs.declared.Own.{Own}
+-- The numbers of a call, what is asked of them, and the answer as a number.
+use Rattle.std.specs.Prelude.{List, ℕ, Option, unwrap_or}
+use Rattle.meaning.specs.Interference.{by_stairs}
+use Rattle.table.specs.Lookup.{stairs_in, all_in, TableFits}
+use Rattle.arrivals.specs.Rows.{RowsFit}
+use Rattle.search.specs.Asked.{Asked, OwnFits}
+use Rattle.bound.specs.Answers.{RowsAsk}
 
-abbrev pub sizes : (n m cycle : ℕ) → Sizes
-sizes n m cycle = record { n = n; m = m; cycle = cycle }
+-- V(t), as it is read from the first m stairs of two rows
+abbrev pub table_v : (cycle : ℕ) (far tot : List ℕ) (m : ℕ) → ℕ → ℕ
+table_v cycle far tot m = by_stairs cycle (all_in tot m) (stairs_in far tot m)
 
-abbrev pub asked : (lower wire period jitter : ℕ) → Own
-asked lower wire period jitter = record { lower = lower; wire = wire; period = period; jitter = jitter }
+-- numbers of stairs, of the stream asked about and of those beside it, from which its bound can be computed
+pub record NumbersAsk (cycle : ℕ) (far tot : List ℕ) (m : ℕ) (o : Asked) (per jit cost : List ℕ) (n : ℕ) : Type 0 where
+  pub table : TableFits cycle far tot m
+  pub own_fits : OwnFits o
+  pub rows_fit : RowsFit per jit cost n
+  pub asks : RowsAsk (table_v cycle far tot m) (all_in tot m) o per jit cost n
 
 -- the bound; no bound is as large as the number that stands for an endless stream
-abbrev pub number_of : Response → ℕ
-number_of (Within r) = r
-number_of Endless = 1_000_000_000
+abbrev pub number_of : Option ℕ → ℕ
+number_of r = unwrap_or r 1_000_000_000

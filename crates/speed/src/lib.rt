@@ -3,15 +3,17 @@
 
 ghost use Rattle.std.specs.Prelude.{◌≡◌};
 ghost use Rattle.meaning.specs.Response.{bound};
-ghost use Rattle.search.specs.Searches.{table_v};
+ghost use Rattle.search.specs.Asked.{asked};
 ghost use Rattle.frames.specs.Windows.{Beside};
-ghost use Rattle.bound.specs.Answers.{response_of, RowsAsk};
-ghost use Rattle.speed.specs.Told.{number_of, sizes, asked};
+ghost use Rattle.bound.specs.Answers.{response_of};
+ghost use Rattle.speed.specs.Told.{NumbersAsk, number_of, table_v};
 
-use bound::Response;
-use search::{Own, Sizes};
+use arrivals::Rows;
+use search::Own;
+use table::Stairs;
 
 // The bound of a stream beside streams that are unpacked; 1,000,000,000 for an endless one.
+// Stays: the C interface needs the parameters as they are.
 pub fn speed_bound<'a>(
     per: &'a [u32; 64],
     jit: &'a [u32; 64],
@@ -26,23 +28,29 @@ pub fn speed_bound<'a>(
     period: u32,
     jitter: u32,
 ) -> u32
-    requires { RowsAsk far.now tot.now (sizes n m cycle) (asked lower wire period jitter)
-        per.now jit.now cost.now }
+    requires { NumbersAsk cycle far.now tot.now m (asked lower wire period jitter)
+        per.now jit.now cost.now n }
     ensures { (s : Beside (asked lower wire period jitter)
         per.now jit.now cost.now n)
         → result ≡ number_of (response_of (bound s.rate (table_v cycle far.now tot.now m) lower
         s.rest s.own)) }
 {
-    let g = Sizes { n, m, cycle };
+    let rows = Rows {
+        n,
+        per: *per,
+        jit: *jit,
+        cost: *cost,
+    };
+    let stairs = Stairs {
+        cycle,
+        far: &far[..m],
+        tot: &tot[..m],
+    };
     let own = Own {
         lower,
         wire,
         period,
         jitter,
     };
-    let r = bound::rows_bound(per, jit, cost, far, tot, g, own);
-    match r {
-        Response::Within(b) => b,
-        Response::Endless => 1_000_000_000,
-    }
+    bound::rows_bound(&rows, &stairs, &own).unwrap_or(1_000_000_000)
 }

@@ -3,12 +3,13 @@
 
 ghost use Rattle.std.specs.Prelude.{◌≡◌};
 ghost use Rattle.meaning.specs.Response.{bound};
-ghost use Rattle.search.specs.Searches.{table_v};
+ghost use Rattle.search.specs.Asked.{asked};
 ghost use Rattle.frames.specs.Windows.{Beside};
-ghost use Rattle.bound.specs.Answers.{response_of, RowsAsk};
-ghost use Rattle.speed.specs.Told.{number_of, sizes, asked};
+ghost use Rattle.bound.specs.Answers.{response_of};
+ghost use Rattle.speed.specs.Told.{NumbersAsk, number_of, table_v};
 
 // The bound of a stream beside streams that are unpacked; 1,000,000,000 for an endless one.
+// Stays: the C interface needs the parameters as they are.
 #[unsafe(no_mangle)]
 pub extern "C" fn speed_bound<'a>(
     per: &'a [u32; 64],
@@ -24,8 +25,8 @@ pub extern "C" fn speed_bound<'a>(
     period: u32,
     jitter: u32,
 ) -> u32
-    requires { RowsAsk far.now tot.now (sizes n m cycle) (asked lower wire period jitter)
-        per.now jit.now cost.now }
+    requires { NumbersAsk cycle far.now tot.now m (asked lower wire period jitter)
+        per.now jit.now cost.now n }
     ensures { (s : Beside (asked lower wire period jitter)
         per.now jit.now cost.now n)
         → result ≡ number_of (response_of (bound s.rate (table_v cycle far.now tot.now m) lower

@@ -5,37 +5,32 @@ ghost use Rattle.std.specs.Prelude.{◌≡◌};
 ghost use Rattle.meaning.specs.Wire.{ten_octets, wire_time};
 ghost use Rattle.wire.specs.Timing.{timed};
 
-// A time in ns; a number that is no rate code is refused by name.
-#[derive(Clone, Copy)]
-pub enum Timing {
-    Time(u64),
-    UnknownRate,
-}
+// The refusal, by name, of a number that is no rate code.
+#[derive(Clone, Copy, Debug, PartialEq, Eq)]
+pub struct UnknownRate;
 
 // The octets that a frame occupies besides its own: preamble and start delimiter.
 const EXTRA: u64 = 8;
 
-// The time of ten octets, by the rate code.
-pub fn ten_octets(rate: u64) -> Timing
+// The time of ten octets in ns, by the rate code.
+#[tactic(auto, unfolding(crate::specs::Timing::timed, meaning::specs::Wire::ten_octets))]
+pub fn ten_octets(rate: u64) -> Result<u64, UnknownRate>
     ensures { result ≡ timed rate (ten_octets rate) }
 {
     match rate {
-        1 => Timing::Time(8000),
-        2 => Timing::Time(800),
-        3 => Timing::Time(80),
-        4 => Timing::Time(32),
-        5 => Timing::Time(8),
-        _ => Timing::UnknownRate,
+        1 => Ok(8000),
+        2 => Ok(800),
+        3 => Ok(80),
+        4 => Ok(32),
+        5 => Ok(8),
+        _ => Err(UnknownRate),
     }
 }
 
-// The wire time of a frame of this many octets.
-pub fn wire_time(rate: u64, octets: u32) -> Timing
+// The wire time in ns of a frame of this many octets.
+pub fn wire_time(rate: u64, octets: u32) -> Result<u64, UnknownRate>
     ensures { result ≡ timed rate (wire_time rate octets) }
 {
-    let k = ten_octets(rate);
-    match k {
-        Timing::Time(ten) => Timing::Time(((octets as u64 + EXTRA) * ten + 9) / 10),
-        Timing::UnknownRate => Timing::UnknownRate,
-    }
+    let ten = ten_octets(rate)?;
+    Ok(((octets as u64 + EXTRA) * ten).div_ceil(10))
 }

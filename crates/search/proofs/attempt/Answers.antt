@@ -1,53 +1,34 @@
 -- `search::attempt` meets its contract: the sum fits 64 bits, and it is what the try asks for.
-use Prim.Native.Nat.{◌+◌, ◌*◌, ◌≤◌}
-use native.Mathlib.Omega.{arith}
+use Rattle.std.proofs.Common.{◌+◌, ◌≤◌, arith}
 use Rattle.search.specs.Searches.{table_of}
-use Rattle.arrivals.proofs.Counting.{rows_few}
-use Rattle.search.proofs.Searching.{table_most, tried}
-use Rattle.search.proofs.attempt.Goals.{After-struct_known-1}
+use Rattle.search.proofs.Searching.{loads_few, table_most, tried}
+use Rattle.search.proofs.attempt.Goals.{After-advance}
 use Rattle.search.proofs.attempt.Goals as goal
 
-pub advance-c-requires : goal.advance-c-requires
-advance-c-requires c = (c.requires.0, c.requires.3, c.requires.2)
+few : (c : After-advance) → c.advance.new.self.load ≤ 2_560_128_000_000
+few c =
+    let a = c.args in
+    loads_few a.stairs.now c.requires.0 a.rows.now c.advance.new.self a.w c.advance.ensures.0 c.requires.2
 
-pub interference-v-requires : goal.interference-v-requires
-interference-v-requires c = c.requires.1.fits
+pub overflow_add-result : goal.overflow_add-result
+overflow_add-result c = omega (arith, few c)
 
-counted_few : (c : After-struct_known-1) → c.advance-c.result.load ≤ 64 * 40_002_000_000
-counted_few c =
-    let s = c.before.before.before.before in
-    let a = s.args in
-    let r = c.advance-c in
+pub overflow_add-result-2 : goal.overflow_add-result-2
+overflow_add-result-2 c =
+    let a = c.args in
     omega (
       arith,
-      s.requires.0.few,
-      rows_few a.per.now a.jit.now a.cost.now a.g.n s.requires.0 r.new.next
-          r.result a.w r.ensures.0 s.requires.3,
-    )
-
-pub overflow_add-need : goal.overflow_add-need
-overflow_add-need c = omega (arith, counted_few c)
-
-pub overflow_add-need-2 : goal.overflow_add-need-2
-overflow_add-need-2 c =
-    let s = c.before.before.before.before in
-    let a = s.args in
-    omega (
-      arith,
-      counted_few c,
-      c.interference-v.ensures,
-      table_most a.far.now a.tot.now a.g s.requires.1
-          (a.w + a.off) (omega arith),
+      few (goal.at.overflow_add-result-2 c).After-advance,
+      c.interference.ensures,
+      table_most a.stairs.now c.requires.0 (a.w + a.off) (omega arith),
     )
 
 pub returns : goal.returns
 returns c =
-    let s = c.before.before.before.before in
-    let a = s.args in
-    let r = c.advance-c in
-    let v = c.interference-v in (
-      r.ensures.0,
-      tried a.per.now a.jit.now a.cost.now a.g.n s.requires.0
-          (table_of a.far.now a.tot.now a.g)
-          a.base a.off a.w r.new.next r.result v.result r.ensures.0 r.ensures.1 v.ensures,
+    let a = c.args in
+    let r = a.rows.now in
+    let u = c.advance.ensures in (
+      u.0,
+      tried r.per r.jit r.cost r.n r.fit (table_of a.stairs.now) a.base a.off a.w c.advance.new.self
+          c.interference.result u.0 u.1 c.interference.ensures,
     )

@@ -1,16 +1,12 @@
--- `search::window` meets its contract. The invariant: no number below w closes, and what is counted has come
--- by w. The measure: how far w is from the horizon.
-use Prim.Native.Nat.{◌-◌, ◌≤◌}
+-- The invariant: no number below w closes, and what is counted has come by w. The measure: how far w is from the
+-- horizon.
+use Rattle.std.proofs.Common.{◌-◌, ◌≤◌}
 use Rattle.laws.proofs.Leasts.{Under}
-use Rattle.arrivals.specs.Rows.{RowsCounted}
-use Rattle.search.specs.Searches.{table_of, row_busy}
+use Rattle.search.specs.Searches.{Counted, busy}
 use Rattle.search.proofs.window.Given as goal
 
-abbrev pub invariant-loop-w : goal.invariant-loop-w
-invariant-loop-w l =
-    RowsCounted l.per l.jit l.cost l.g.n l.next l.seen l.w × Under
-    (row_busy (table_of l.far l.tot l.g) l.per l.jit l.cost l.g.n l.own) l.w
-    × (l.w ≤ 100_000_000)
+abbrev pub invariant-loop-seen : goal.invariant-loop-seen
+invariant-loop-seen l = Counted l.rows l.seen l.w × Under (busy l.stairs l.rows l.own) l.w × (l.w ≤ 100_000_000)
 
-abbrev pub decreases-loop-w : goal.decreases-loop-w
-decreases-loop-w l = 100_000_000 - l.w
+abbrev pub decreases-loop-seen : goal.decreases-loop-seen
+decreases-loop-seen l = 100_000_000 - l.w

@@ -21,14 +21,14 @@ loop-k-init c =
 pub loop-k-preserved : goal.loop-k-preserved
 loop-k-preserved c =
     let l = c.loop-k in
-    let k = l.k in (
+    let k = l.k in
+    let r = c.min-low in (
       omega arith,
       omega arith,
-      length-set l.tree (k / 2) c.min-low.result ∙ l.invariant.2,
-      get_or-set_same l.tree (k / 2) c.min-low.result 0 (omega (arith, l.invariant.2)),
+      length-set l.tree (k / 2) r.result ∙ l.invariant.2,
+      get_or-set_same l.tree (k / 2) r.result 0 (omega (arith, l.invariant.2)),
       λ keys s.
-          mend_node k l.low c.min-low.result (l.invariant.4 keys s) (omega arith) l.invariant.1 l.invariant.3
-          c.min-low.ensures,
+          mend_node k l.low r.result (l.invariant.4 keys s) (omega arith) l.invariant.1 l.invariant.3 r.ensures,
     )
 
 pub returns : goal.returns

@@ -1,26 +1,17 @@
 -- `wire::wire_time` meets its contract: nothing overflows, and the division rounds up.
-use Prim.Native.Nat.{◌+◌, ◌*◌, ◌≤◌}
 use native.Mathlib.Omega.{arith}
+use Rattle.std.proofs.lemmas.Result.{err_from_is_err_and}
 use Rattle.wire.proofs.Rates.{product_fits, wire_is, unknown_time}
-use borrow.Author.Rules.{rules}
-use Rattle.wire.proofs.wire_time.Goals.{In-Time}
 use Rattle.wire.proofs.wire_time.Goals as goal
 
--- the product is small: the rate is known, and the octets fit 32 bits
-product : (c : In-Time)
-    → (c.args.octets + 8) * c.in-Time.ten ≤ 34_359_738_432_000
-product c =
-    product_fits c.args.rate c.args.octets c.in-Time.ten (search rules) c.in-Time.ensures
+pub overflow_mul-octets : goal.overflow_mul-octets
+overflow_mul-octets c =
+    omega (arith, product_fits c.args.rate c.args.octets c.in_ok-ten.ten (omega arith) c.in_ok-ten.ensures)
 
-pub overflow_mul-result : goal.overflow_mul-result
-overflow_mul-result c = omega (arith, product c)
+pub returns : goal.returns
+returns c = rw c.div_ceil.ensures (wire_is c.args.rate c.args.octets c.in_ok-ten.ten c.in_ok-ten.ensures)
 
-pub overflow_add-result-in-Time : goal.overflow_add-result-in-Time
-overflow_add-result-in-Time c = omega (arith, product c)
-
-pub returns-in-Time : goal.returns-in-Time
-returns-in-Time c =
-    wire_is _ _ _ c.in-Time.ensures
-
-pub returns-in-UnknownRate : goal.returns-in-UnknownRate
-returns-in-UnknownRate c = unknown_time _ _ _ c.in-UnknownRate.ensures
+pub returns-in_err-ten : goal.returns-in_err-ten
+returns-in_err-ten c =
+    let p = err_from_is_err_and c.from_residual.result c.from_residual.ensures.1 in
+    rw p.1 (unknown_time c.args.rate _ _ c.in_err-ten.ensures)

@@ -1,13 +1,11 @@
--- `search::hasten::hasten` meets its contract. The invariant: no number below w closes. The measure: how far w is
--- from the horizon.
-use Prim.Native.Nat.{◌-◌, ◌≤◌}
+-- The invariant: no number below w closes. The measure: how far w is from the horizon.
+use Rattle.std.proofs.Common.{◌-◌, ◌≤◌}
 use Rattle.laws.proofs.Leasts.{Under}
-use Rattle.search.specs.Searches.{table_of, row_busy}
+use Rattle.search.specs.Searches.{busy}
 use Rattle.search.proofs.hasten.hasten.Given as goal
 
-abbrev pub invariant-loop-w : goal.invariant-loop-w
-invariant-loop-w l =
-    Under (row_busy (table_of l.far l.tot l.g) l.per l.jit l.cost l.g.n l.own) l.w × (l.w ≤ 100_000_000)
+abbrev pub invariant-loop-inv : goal.invariant-loop-inv
+invariant-loop-inv l = Under (busy l.stairs l.rows l.own) l.w × (l.w ≤ 100_000_000)
 
-abbrev pub decreases-loop-w : goal.decreases-loop-w
-decreases-loop-w l = 100_000_000 - l.w
+abbrev pub decreases-loop-inv : goal.decreases-loop-inv
+decreases-loop-inv l = 100_000_000 - l.w
