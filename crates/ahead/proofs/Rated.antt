@@ -10,7 +10,9 @@ use borrow.Author.Tests.{ne_eqb}
 use Rattle.meaning.specs.Ranges.{within}
 use Rattle.meaning.specs.Wire.{ten_octets, extra_octets, tenth_up, wire_time}
 use Rattle.meaning.proofs.Wires.{wire_at_most}
-use Rattle.wire.specs.declared.Timing.TheVariants.{Time, UnknownRate}
+use Rattle.std.specs.Prelude.{Ok, Err}
+use Rattle.std.specs.Result.{result_unwrap_or}
+use Rattle.wire.proofs.Rates.{unknown}
 use Rattle.wire.specs.Timing.{timed}
 
 pub wire_fits : (rate octets : ℕ) → octets ≤ 2_000 → wire_time rate octets ≤ 2_000_000
@@ -25,12 +27,13 @@ ten_unknown rate h = rw (other 1 refl, other 2 refl, other 3 refl, other 4 refl,
     other : (k : ℕ) → within 1 5 k ≡ true → eqb rate k ≡ false
     other k e = ne_eqb rate k (λ q. true≢false (sym e ∙ ap (within 1 5) (sym q) ∙ h))
 
--- where the rate is refused, the wire time is 0
-pub wire_unknown : (rate octets t : ℕ) → UnknownRate ≡ timed rate t → 0 ≡ wire_time rate octets
+-- what is read from a time or its refusal
+pub wire_read : (rate octets : ℕ) → result_unwrap_or (timed rate (wire_time rate octets)) 0 ≡ wire_time rate octets
 unfolding timed wire_time
-wire_unknown rate octets t = go (within 1 5 rate) refl
+wire_read rate octets = go (within 1 5 rate) refl
   where
-    go : (b : Bool) → within 1 5 rate ≡ b → UnknownRate ≡ cond b (Time t) UnknownRate
-        → 0 ≡ tenth_up ((octets + extra_octets) * ten_octets rate)
-    go true e h = cc
-    go false e h = rw (ten_unknown rate e, mul-zero (octets + extra_octets))
+    go : (b : Bool) → within 1 5 rate ≡ b
+        → result_unwrap_or (cond b (Ok (wire_time rate octets)) (Err unknown)) 0
+        ≡ tenth_up ((octets + extra_octets) * ten_octets rate)
+    go true e = refl
+    go false e = rw (ten_unknown rate e, mul-zero (octets + extra_octets)) refl

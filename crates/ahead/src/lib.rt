@@ -1,23 +1,19 @@
 // The streams that count for a response (document 01, "Response bound"), as rows of numbers.
 #![tactic(auto)]
 
-ghost use Rattle.std.specs.Prelude.{◌≡◌, ◌≤◌, max, take};
+ghost use Rattle.std.specs.Prelude.{◌≡◌, ◌≤◌, length};
 ghost use Rattle.laws.specs.Lists.{Mem, without};
 ghost use Rattle.meaning.specs.declared.Stream.{Stream};
 ghost use Rattle.meaning.specs.Wire.{wire_time};
-ghost use Rattle.ahead.specs.Unpacked.{ahead_of};
+ghost use Rattle.ahead.specs.Unpacked.{StreamFits, unpacked, ahead_of};
 
+use arrivals::Rows;
 use meaning::Stream;
-use wire::Timing;
 
-// The streams of equal or higher priority: how many, and the period, the jitter and the wire time of each. Beside them
-// the largest wire time of a stream of lower priority, 0 with none.
+// The streams of equal or higher priority, and the largest wire time of a stream of lower priority, 0 with none.
 #[derive(Clone, Copy)]
 pub struct Ahead {
-    pub n: usize,
-    pub per: [u32; 64],
-    pub jit: [u32; 64],
-    pub cost: [u32; 64],
+    pub rows: Rows,
     pub lower: u32,
 }
 
@@ -26,55 +22,27 @@ pub fn wire_of(rate: u32, octets: u32) -> u32
     requires { octets ≤ 2_000 }
     ensures { (result ≡ wire_time rate octets) × (result ≤ 2_000_000) }
 {
-    let t = wire::wire_time(rate as u64, octets);
-    match t {
-        Timing::Time(c) => c as u32,
-        Timing::UnknownRate => 0,
-    }
-}
-
-// The larger of two numbers.
-fn larger(a: u32, b: u32) -> u32
-    ensures { result ≡ max a b }
-{
-    if a < b {
-        return b;
-    }
-    a
+    wire::wire_time(rate as u64, octets).unwrap_or(0) as u32
 }
 
 // The streams beside own, all but the one at place leave, as rows of numbers: those of equal or higher priority, and of
 // the others the largest wire time. A place leave past them leaves none out.
-pub fn unpack(rate: u32, streams: [Stream; 64], n: usize, own: Stream, leave: usize) -> Ahead
-    requires { (n ≤ 64) × ((j : Stream) → Mem j (take n streams) → j.octets ≤ 2_000) }
-    ensures { result ≡ ahead_of rate own (without leave (take n streams)) }
+pub fn unpack(rate: u32, streams: &[Stream], own: Stream, leave: usize) -> Ahead
+    requires { (length streams.now ≤ 64) × ((j : Stream) → Mem j streams.now → StreamFits j) }
+    ensures { unpacked result ≡ ahead_of rate own (without leave streams.now) }
 {
-    let mut k: usize = 0;
-    let mut per = [0u32; 64];
-    let mut jit = [0u32; 64];
-    let mut cost = [0u32; 64];
+    let mut rows = Rows::none();
     let mut lower: u32 = 0;
-    let mut i: usize = 0;
-    while i < n {
-        if i != leave {
-            let s = streams[i];
-            let c = wire_of(rate, s.octets);
-            if own.priority <= s.priority {
-                per[k] = s.period;
-                jit[k] = s.jitter;
-                cost[k] = c;
-                k += 1;
-            } else {
-                lower = larger(lower, c);
-            }
+    for (i, s) in streams.iter().enumerate() {
+        if i == leave {
+            continue;
         }
-        i += 1;
+        let cost = wire_of(rate, s.octets);
+        if own.priority <= s.priority {
+            rows.push(s.period, s.jitter, cost);
+        } else {
+            lower = lower.max(cost);
+        }
     }
-    Ahead {
-        n: k,
-        per,
-        jit,
-        cost,
-        lower,
-    }
+    Ahead { rows, lower }
 }

@@ -1,57 +1,43 @@
 // Prints the runs and the stairs of plan F, and of the worked example of document 000, Table I, scaled by 1,000.
 #![tactic(auto)]
 
-ghost use Rattle.std.specs.Prelude.{[], ◌∷◌, ◌≡◌, ◌≤◌, take};
+ghost use Rattle.std.specs.Prelude.{◌≤◌, length};
 ghost use Rattle.meaning.specs.Promises.{Chain};
 ghost use Rattle.gate.specs.Rows.{GateFits};
 
-use gate::RunRow;
-use meaning::{Gate, Slot};
+use meaning::{Gate, Run, Slot};
 use std::io;
 use table::Table;
 
 // A line for each run: its start and its length.
-fn show_runs(rt: &impl Print, r: RunRow) -> io::Result<()>
-    requires { r.n ≤ 32 }
-{
-    for x in &r.row[..r.n] {
-        println!(rt; "run {} {}", x.start, x.len)?;
+fn show_runs(rt: &impl Print, runs: &[Run]) -> io::Result<()> {
+    for r in runs {
+        println!(rt; "run {} {}", r.start, r.len)?;
     }
     Ok(())
 }
 
 // A line for each stair: its distance and its total.
-fn show_stairs(rt: &impl Print, t: Table) -> io::Result<()>
-    requires { t.n ≤ 993 }
+fn show_stairs(rt: &impl Print, t: &Table) -> io::Result<()>
+    requires { t.now.n ≤ 993 }
 {
-    let Table { n, far, tot } = t;
-    for i in 0..n {
-        println!(rt; "stair {} {}", far[i], tot[i])?;
+    for (far, tot) in t.far[..t.n].iter().zip(&t.tot[..t.n]) {
+        println!(rt; "stair {} {}", far, tot)?;
     }
     Ok(())
 }
 
 // The runs and stairs of slots that leave a cell free.
-fn show(rt: &impl Print, g: Gate, slots: [Slot; 32], n: usize) -> io::Result<()>
-    requires { (n ≤ 32) × GateFits g × Chain 0 (take n slots) g.cycle }
+fn show(rt: &impl Print, g: Gate, slots: &[Slot]) -> io::Result<()>
+    requires { (length slots.now ≤ 32) × GateFits g × Chain 0 slots.now g.cycle }
 {
-    if gate::some_free(g, slots, n) {
-        let r = gate::find_runs(g, slots, n);
-        show_runs(rt, r)?;
-        show_stairs(rt, stairs::build(g.cycle, r.row, r.n))?;
+    if gate::some_free(g, slots) {
+        let found = gate::find_runs(g, slots);
+        let runs = found.runs();
+        show_runs(rt, runs)?;
+        show_stairs(rt, &stairs::build(g.cycle, runs))?;
     }
     Ok(())
-}
-
-// Three slots in a row.
-fn three(a: Slot, b: Slot, c: Slot) -> [Slot; 32]
-    ensures { take 3 result ≡ a ∷ b ∷ c ∷ [] }
-{
-    let mut slots = [Slot { start: 0, end: 0 }; 32];
-    slots[0] = a;
-    slots[1] = b;
-    slots[2] = c;
-    slots
 }
 
 // Plan F of document 01.
@@ -61,19 +47,21 @@ fn show_f(rt: &impl Print) -> io::Result<()> {
         guard: 1_000,
         header: 500,
     };
-    let a = Slot {
-        start: 10_000,
-        end: 14_000,
-    };
-    let b = Slot {
-        start: 30_000,
-        end: 32_500,
-    };
-    let c = Slot {
-        start: 60_000,
-        end: 68_500,
-    };
-    show(rt, g, three(a, b, c), 3)
+    let slots = [
+        Slot {
+            start: 10_000,
+            end: 14_000,
+        },
+        Slot {
+            start: 30_000,
+            end: 32_500,
+        },
+        Slot {
+            start: 60_000,
+            end: 68_500,
+        },
+    ];
+    show(rt, g, &slots)
 }
 
 // Document 000, Table I: a slot's guard of 1 stands before it, so that its runs are the table's slots.
@@ -83,19 +71,21 @@ fn show_one(rt: &impl Print) -> io::Result<()> {
         guard: 1,
         header: 0,
     };
-    let a = Slot {
-        start: 3_001,
-        end: 6_000,
-    };
-    let b = Slot {
-        start: 7_001,
-        end: 9_000,
-    };
-    let c = Slot {
-        start: 14_001,
-        end: 18_000,
-    };
-    show(rt, g, three(a, b, c), 3)
+    let slots = [
+        Slot {
+            start: 3_001,
+            end: 6_000,
+        },
+        Slot {
+            start: 7_001,
+            end: 9_000,
+        },
+        Slot {
+            start: 14_001,
+            end: 18_000,
+        },
+    ];
+    show(rt, g, &slots)
 }
 
 fn main(rt: HostRuntime) -> io::Result<()> {

@@ -1,14 +1,11 @@
 -- `ahead::unpack` meets its contract: the rows are those of the places passed, all but the one that is left out.
 use mathlib.Core.Path.{◌≡◌}
-use Prim.Native.Nat.{◌-◌, ◌≤◌}
+use Prim.Native.Nat.{◌≤◌}
+use Rattle.ahead.specs.Unpacked.{unpacked}
 use Rattle.ahead.proofs.Unpacking.{up_to}
 use Rattle.ahead.proofs.unpack.Given as goal
 
 abbrev pub invariant-loop-i : goal.invariant-loop-i
 invariant-loop-i l =
-    (l.i ≤ l.n) × (l.k ≤ l.i)
-    × (record { n = l.k; per = l.per; jit = l.jit; cost = l.cost; lower = l.lower }
-    ≡ up_to l.rate l.own l.leave l.streams l.i)
-
-abbrev pub decreases-loop-i : goal.decreases-loop-i
-decreases-loop-i l = l.n - l.i
+    (l.rows.n ≤ l.i)
+    × (unpacked (record { rows = l.rows; lower = l.lower }) ≡ up_to l.rate l.own l.leave l.streams l.i)

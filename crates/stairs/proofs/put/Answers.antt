@@ -1,34 +1,24 @@
 -- `stairs::put` meets its contract. The invariant: node k is low, and all nodes are right but the one above k.
 -- The measure: k.
 use mathlib.Core.Path.{◌≡◌, sym, ap, ◌∙◌}
-use Prim.Native.Nat.{ℕ, ◌+◌, ◌/◌}
+use Prim.Native.Nat.{ℕ, ◌/◌}
 use native.Mathlib.Omega.{arith}
 use lib.ListN.{get_or, length-set}
 use lib.Seq.{get_or-set_same}
 use Rattle.stairs.proofs.Tree.{put_leaf, mend_node}
 use Rattle.stairs.proofs.put.Goals as goal
 
-pub loop-k-init : goal.loop-k-init
-loop-k-init c =
-    let a = c.args in (
-      omega arith,
-      omega (arith, c.requires.1),
-      length-set a.tree.now (32 + a.i) a.v ∙ c.requires.0,
-      get_or-set_same a.tree.now (32 + a.i) a.v 0 (omega (arith, c.requires.0, c.requires.1)),
-      λ keys s. s,
-    )
-
 pub loop-k-preserved : goal.loop-k-preserved
 loop-k-preserved c =
     let l = c.loop-k in
-    let k = l.k in (
+    let k = l.k in
+    let r = c.min-low in (
       omega arith,
       omega arith,
-      length-set l.tree (k / 2) c.min-low.result ∙ l.invariant.2,
-      get_or-set_same l.tree (k / 2) c.min-low.result 0 (omega (arith, l.invariant.2)),
+      length-set l.tree (k / 2) r.result ∙ l.invariant.2,
+      get_or-set_same l.tree (k / 2) r.result 0 (omega (arith, l.invariant.2)),
       λ keys s.
-          mend_node k l.low c.min-low.result (l.invariant.4 keys s) (omega arith) l.invariant.1 l.invariant.3
-          c.min-low.ensures,
+          mend_node k l.low r.result (l.invariant.4 keys s) (omega arith) l.invariant.1 l.invariant.3 r.ensures,
     )
 
 pub returns : goal.returns
