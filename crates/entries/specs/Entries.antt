@@ -1,18 +1,17 @@
--- What a desk holds, as a struct: which desk of document 01 it is, when it is fit, and how an edit is handed back.
-use Rattle.std.specs.Prelude.{◌≡◌, Bool, true, false, cond, List, [], ℕ, length, take}
+-- What a desk holds, as a struct: which desk of document 01 it is, when it is fit, and what an edit hands back.
+use Rattle.std.specs.Prelude.{◌≡◌, Bool, true, false, cond, List, [], ℕ, length, take, Result}
 use Rattle.meaning.specs.declared.Port.{Port}
 use Rattle.meaning.specs.declared.Gate.{Gate}
 use Rattle.meaning.specs.declared.Slot.{Slot}
 use Rattle.meaning.specs.declared.Stream.{Stream}
 use Rattle.meaning.specs.declared.Refusal.{Refusal}
 use Rattle.meaning.specs.Runs.{gate_of}
-use Rattle.meaning.specs.Desks.{Desk, bare, opened, Reply}
+use Rattle.meaning.specs.Desks.{Desk, bare, opened, edited}
 use Rattle.meaning.specs.Promises.{SoundDesk}
-use Rattle.answers.specs.declared.Verdict.TheVariants.{Accepted, Refused}
-use Rattle.answers.specs.Answers.{verdict_of}
+use Rattle.meaning.specs.Refusals.{Answer}
+use Rattle.answers.specs.Answers.{answer_of}
 use Rattle.rows.specs.Rows.{slot_row, stream_row}
 use Rattle.entries.specs.declared.Entries.{Entries}
-use Rattle.entries.specs.declared.EntriesReply.{EntriesReply}
 
 -- ---- the struct and what it holds
 
@@ -88,13 +87,10 @@ with_stream_row e row n =
       streams = row;
     }
 
--- ---- replies
+-- ---- edits
 
-abbrev pub entries_reply : Reply (Unit {0}) → EntriesReply
-entries_reply r = record { verdict = verdict_of r.answer; entries = entries_of r.desk }
-
-abbrev pub accepting : Entries → EntriesReply
-accepting e = record { verdict = Accepted; entries = e }
-
-abbrev pub refusing : Entries → Refusal → EntriesReply
-refusing e why = record { verdict = Refused why; entries = e }
+-- an edit of what e holds, which document 01 answers by a: what it hands back, and the entries that it leaves
+pub record Edits (e : Entries) (a : Answer Desk) (result : Result (Unit {0}) Refusal) (made : Entries) : Type 0 where
+  pub answer : result ≡ answer_of (edited (held_in e) a).answer
+  pub entries : made ≡ entries_of (edited (held_in e) a).desk
+  pub fit : FitEntries made

@@ -6,12 +6,7 @@ mod ports;
 mod slots;
 mod streams;
 
-use answers::Verdict;
 use meaning::{Slot, Stream};
-pub use parts::gate_of;
-pub use ports::{hold_port, none};
-pub use slots::{drop_slot, hold_slot};
-pub use streams::{drop_stream, hold_stream};
 
 // What one output port has been given: its numbers, its slots by rising start and its streams by rising id. Free places
 // are zero, and where no port is open all is zero.
@@ -26,10 +21,4 @@ pub struct Entries {
     pub slots: [Slot; 32],
     pub nstreams: usize,
     pub streams: [Stream; 64],
-}
-
-#[derive(Clone, Copy)]
-pub struct EntriesReply {
-    pub verdict: Verdict,
-    pub entries: Entries,
 }

@@ -1,49 +1,61 @@
-// The parts of an edit: its answer, the gate numbers in force, and the octet limit.
-ghost use Rattle.std.specs.Prelude.{◌≡◌};
+// What each edit asks of the entries: that a port is open, the gate numbers in force, and the octet limit.
+ghost use Rattle.std.specs.Prelude.{◌≡◌, ◌≤◌, true, false, MatchResult};
+ghost use Rattle.meaning.specs.declared.Refusal.TheVariants.{OutOfTurn};
 ghost use Rattle.meaning.specs.Ranges.{octet_limit};
-ghost use Rattle.entries.specs.Entries.{port_in, gate_in, accepting, refusing};
+ghost use Rattle.entries.specs.Entries.{port_in, slots_in, streams_in, gate_in};
 
-use crate::{Entries, EntriesReply};
-use answers::Verdict;
-use meaning::{Gate, Refusal};
+use crate::Entries;
+use meaning::{Gate, Refusal, Slot, Stream};
 
 // The octets of a frame, at most.
-const OCTET_LIMIT: u64 = 1_522;
+const OCTET_LIMIT: u32 = 1_522;
 
-// An accepted edit, and the entries that it made.
-pub fn accept(e: Entries) -> EntriesReply
-    ensures { result ≡ accepting e }
-{
-    EntriesReply {
-        verdict: Verdict::Accepted,
-        entries: e,
+impl Entries {
+    // A port must be open.
+    pub fn in_turn(&self) -> Result<(), Refusal>
+        ensures { MatchResult result (λ _. self.now.opened ≡ true)
+            (λ why. (self.now.opened ≡ false) × (why ≡ OutOfTurn)) }
+    {
+        if self.opened {
+            Ok(())
+        } else {
+            Err(Refusal::OutOfTurn)
+        }
     }
-}
 
-// A refused edit, and the unchanged entries.
-pub fn refuse(e: Entries, why: Refusal) -> EntriesReply
-    ensures { result ≡ refusing e why }
-{
-    EntriesReply {
-        verdict: Verdict::Refused(why),
-        entries: e,
+    // The slots held.
+    pub fn held_slots(&self) -> &[Slot]
+        requires { self.now.nslots ≤ 32 }
+        ensures { result.now ≡ slots_in self.now }
+    {
+        &self.slots[..self.nslots]
     }
-}
 
-// The gate numbers in force.
-pub fn gate_of(e: Entries) -> Gate
-    ensures { result ≡ gate_in e }
-{
-    Gate {
-        cycle: e.cycle,
-        guard: e.guard,
-        header: e.header,
+    // The streams held.
+    pub fn held_streams(&self) -> &[Stream]
+        requires { self.now.nstreams ≤ 64 }
+        ensures { result.now ≡ streams_in self.now }
+    {
+        &self.streams[..self.nstreams]
     }
-}
 
-// The octets of a frame, at most, by the port.
-pub fn octet_limit(e: Entries) -> u64
-    ensures { result ≡ octet_limit (port_in e) }
-{
-    OCTET_LIMIT
+    // The gate numbers in force.
+    #[tactic(auto, unfolding(meaning::specs::Runs::gate_of))]
+    pub fn gate(&self) -> Gate
+        ensures { result ≡ gate_in self.now }
+    {
+        Gate {
+            cycle: self.cycle,
+            guard: self.guard,
+            header: self.header,
+        }
+    }
+
+    // The octets of a frame, at most, by the port.
+    #[tactic(auto, unfolding(meaning::specs::Ranges::octet_limit))]
+    pub fn octet_limit(&self) -> u32
+        ensures { result ≡ octet_limit (port_in self.now) }
+    {
+        OCTET_LIMIT
+    }
 }

@@ -42,9 +42,6 @@ head-requires c =
     let k = (goal.at.head-requires c).After-total_of-t in
     rw (moved_to k) (moving_on c.requires.1 (chose k) _ c.total_of-t.ensures)
 
-pub put-low-requires : goal.put-low-requires
-put-low-requires c = (c.loop-low.invariant.0.nodes.long, omega arith, omega (arith, c.head.ensures))
-
 pub loop-low-smaller : goal.loop-low-smaller
 loop-low-smaller c =
     let near = (chose (goal.at.loop-low-smaller c).After-total_of-t).near in
