@@ -5,6 +5,7 @@ use mathlib.Core.List.{List}
 use Prim.Native.Nat.{ℕ, ◌+◌, ◌-◌, ◌*◌, max, ◌≤◌, ◌<◌, zero-le}
 use native.Mathlib.Nat.{le_refl, add-zero}
 use native.Mathlib.Omega.{arith}
+use borrow.Author.Tests.{le-leb}
 use Rattle.laws.specs.Numbers.{Least, Mono}
 use Rattle.laws.proofs.Leasts.{Under}
 use Rattle.meaning.specs.declared.Stream.{Stream}
@@ -16,12 +17,10 @@ use Rattle.meaning.proofs.Responses.{wait_room, wait_under, wait_inside, wait_ar
 use Rattle.meaning.proofs.Later.{next_of, early_zero, early_next, early_soon}
 use Rattle.meaning.proofs.FewFrames.{worst_of, worst_none, worst_more}
 use Rattle.meaning.proofs.Demands.{wait_cold, wait_warm}
-
 use Rattle.arrivals.specs.Rows.{stepped}
 use Rattle.search.specs.Asked.{Asked, OwnFits, own_stream, row_demand}
 use Rattle.search.specs.Searches.{Closes}
 use Rattle.frames.specs.Windows.{BesideIn, WorstFor}
-use Rattle.arrivals.proofs.Counting.{stepped_came}
 use Rattle.frames.proofs.RowStreams.{most_own, early_own, wait_rows}
 
 -- ---- the numbers that go with a frame
@@ -62,7 +61,7 @@ module _ (o : Asked) (fits : OwnFits o) where
     numbers_on =
         let next : first o + k + 1 ≡ first o + (k + 1) = omega arith in
         let more : first o + k - 1 + 1 ≡ first o + (k + 1) - 1 = omega (arith, first_some) in
-        let on = stepped_came later later o.period (le_refl later) in
+        let on : later + o.period ≡ stepped later later o.period = rw (le-leb later later (le_refl later)) in
         let past : 0 < earliest (own_stream o) (first o + k + 1) = omega (arith, f.later_is, f.past_zero) in
         let further = early_next (own_stream o) (first o + k + 1) past in
         record {
@@ -79,10 +78,6 @@ module _ (o : Asked) (fits : OwnFits o) where
     -- the next frame can come a period later at most
     pub later_soon : later ≤ come + o.period
     later_soon = omega (arith, f.come_is, f.later_is, early_soon (own_stream o) (first o + k))
-
--- a frame is sent no earlier than it has waited
-pub sent_later : (w wire sent : ℕ) → sent ≡ w + wire → w ≤ sent
-sent_later w wire sent e = omega arith
 
 -- ---- the frames of a busy window
 

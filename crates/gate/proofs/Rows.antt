@@ -1,16 +1,16 @@
 -- The row in which runs are answered.
 -- Assumes nothing.
-use mathlib.Core.Path.{◌≡◌, refl, ap}
+use mathlib.Core.Path.{◌≡◌, refl, ap, ◌∙◌}
 use mathlib.Core.List.{List, [], ◌∷◌, ◌++◌}
 use Prim.Native.Nat.{ℕ, ◌+◌, ◌<◌}
 use native.Mathlib.Omega.{arith}
-use lib.ListN.{length, set, replicate, length-append}
+use lib.ListN.{length, take, set, replicate, length-append}
 use Rattle.laws.specs.Lists.{filled}
 use Rattle.meaning.specs.declared.Run.{Run}
 use Rattle.gate.specs.declared.RunRow.{RunRow}
 use Rattle.gate.specs.Rows.{no_run, run_row}
 use Rattle.laws.proofs.Filling.{Filling, filling_end}
-use Rattle.laws.proofs.Rows.{filled_push}
+use Rattle.laws.proofs.Rows.{filled_push, filled_take}
 
 pub row_none : record { n = 0; row = replicate 32 no_run } ≡ run_row []
 unfolding run_row filled
@@ -25,6 +25,11 @@ row_filled f none = let (count, places) = filling_end f none in λ i. record { n
 pub row_count : (rs : List Run) {row : RunRow} → row ≡ run_row rs → row.n ≡ length rs
 unfolding run_row
 row_count rs e = ap (λ (r : RunRow). r.n) e
+
+-- the runs that it holds
+pub row_runs : (rs : List Run) {row : RunRow} → row ≡ run_row rs → take row.n row.row ≡ rs
+unfolding run_row
+row_runs rs e = ap (λ (r : RunRow). take r.n r.row) e ∙ filled_take 32 no_run rs
 
 -- one more run, behind the others
 pub row_more : (rs : List Run) {row : RunRow} {r x : Run} → row ≡ run_row rs → r ≡ x → length rs < 32

@@ -19,7 +19,7 @@ pub struct RunRow {
 
 impl RunRow {
     // No run yet.
-    fn none() -> RunRow
+    pub fn none() -> RunRow
         ensures { result ≡ run_row [] }
     {
         RunRow {

@@ -73,6 +73,13 @@ rest_fits room at k h =
     length-take-le (length room - at) (drop at room) (omega (arith, length-drop at room)) in
     omega (arith, rest)
 
+-- what is left behind w has room for k octets
+pub next_fits : {w r xs : List ℕ} {a : ℕ} (k : ℕ) → length w + k ≤ length r → Wrote w a r xs
+    → k ≤ length (mid_of a (length xs - a) xs)
+next_fits {w} {r} {xs} {a} k h p =
+    let long : length xs ≡ length r = wrote_length {a = a} (omega arith) p in
+    rest_fits xs a k (omega (arith, p.count))
+
 -- ---- a row of parts
 
 module _ {A : Type 0} (part : A → List ℕ) where

@@ -143,7 +143,7 @@ base_soon v per jit cost n base off (x, closes, soon) = omega arith
 -- ---- over the code's structs
 
 module _ (s : Stairs) (fit : TableBounds s) (r : Rows) where
-  -- what a try sums up fits 64 bits with room to spare
+  -- the load that is counted fits 64 bits with room to spare
   pub loads_few : (seen : Counts) (w : ℕ) → Counted r seen w → w ≤ 100_000_000 → seen.load ≤ 2_560_128_000_000
   loads_few seen w u soon = omega (arith, r.fit.few, rows_few r.per r.jit r.cost r.n r.fit seen w u soon)
 
@@ -153,5 +153,6 @@ module _ (s : Stairs) (fit : TableBounds s) (r : Rows) where
   pub busy_grows : (o : Own) → Mono (busy s r o)
   busy_grows o = row_busy_mono r.per r.jit r.cost r.n r.fit (table_of s) fit.grows (asked_of o) o.fits
 
-pub counted_on_to : (r : Rows) (seen : Counts) (x y : ℕ) → Counted r seen x → x ≤ y → Counted r seen y
-counted_on_to r seen x y u h = rows_on r.per r.jit r.cost r.n r.fit seen x u y h
+-- what is counted up to x is counted up to any number from x on
+pub counted_on_to : (r : Rows) {seen : Counts} {x y : ℕ} → Counted r seen x → x ≤ y → Counted r seen y
+counted_on_to r {seen} {x} {y} u h = rows_on r.per r.jit r.cost r.n r.fit seen x u y h

@@ -1,19 +1,19 @@
 -- What is found of slots in a chain can be shown and built on.
 -- Assumes nothing.
-use mathlib.Core.Path.{◌≡◌, sym, ap, ◌∙◌}
+use mathlib.Core.Path.{◌≡◌, sym, ◌∙◌}
 use mathlib.Core.Bool.{true}
 use mathlib.Core.List.{List}
 use Prim.Native.Nat.{◌≤◌}
 use native.Mathlib.Omega.{arith}
 use lib.ListN.{length, take}
-use Rattle.laws.proofs.Rows.{filled_take}
 use Rattle.meaning.specs.declared.Gate.{Gate}
 use Rattle.meaning.specs.declared.Slot.{Slot}
 use Rattle.meaning.specs.declared.Run.{Run}
 use Rattle.meaning.specs.Runs.{has_free, runs}
 use Rattle.meaning.specs.Promises.{Chain}
 use Rattle.gate.specs.declared.RunRow.{RunRow}
-use Rattle.gate.specs.Rows.{GateFits, no_run, run_row}
+use Rattle.gate.specs.Rows.{GateFits, run_row}
+use Rattle.gate.proofs.Rows.{row_count, row_runs}
 use Rattle.stairs.specs.Rows.{RunsFit}
 use Rattle.stairs.proofs.Rows.{slots_fit}
 
@@ -23,10 +23,7 @@ module _ (g : Gate) (ss : List Slot) (few : length ss ≤ 32) (fits : GateFits g
   fit_runs = slots_fit g ss fits.cycle_most few links (sym free)
 
   pub found_few : {r : RunRow} → r ≡ run_row (runs g ss) → r.n ≤ 32
-  unfolding run_row
-  found_few found = omega (arith, ap (λ (x : RunRow). x.n) found, fit_runs.few)
+  found_few found = omega (arith, row_count (runs g ss) found, fit_runs.few)
 
   pub found_fits : {r : RunRow} {rs : List Run} → r ≡ run_row (runs g ss) → rs ≡ take r.n r.row → RunsFit g.cycle rs
-  unfolding run_row
-  found_fits found held =
-      rw (held ∙ ap (λ (x : RunRow). take x.n x.row) found ∙ filled_take 32 no_run (runs g ss)) fit_runs
+  found_fits found held = rw (held ∙ row_runs (runs g ss) found) fit_runs

@@ -1,25 +1,22 @@
 -- What writing a whole plan answers.
-use Rattle.std.specs.Prelude.{List, [], ◌∷◌, ℕ}
-use Rattle.meaning.specs.Refusals.{Answer, accepted, refused, number_of}
-use Rattle.meaning.specs.Desks.{Reply}
-use Rattle.desk.specs.Desks.{desk_of}
-use Rattle.writer.specs.declared.WriteAnswer.{WriteAnswer}
-use Rattle.writer.specs.declared.WriteAnswer.TheVariants as writes
-use Rattle.writer.specs.declared.WriteReply.{WriteReply}
-
-abbrev pub write_answer : Answer ℕ → WriteAnswer
-write_answer (accepted n) = writes.Wrote n
-write_answer (refused r) = writes.Refused r
+use Rattle.std.specs.Prelude.{◌≡◌, List, [], ◌∷◌, ℕ, Result, Ok, Err}
+use Rattle.meaning.specs.declared.Refusal.{Refusal}
+use Rattle.meaning.specs.Refusals.{Answer}
+use Rattle.meaning.specs.Desks.{Reply as Meant}
+use Rattle.meaning.specs.Bytes.{written, room_after}
+use Rattle.answers.specs.Answers.{answer_of}
+use Rattle.desk.specs.Desks.{reply_of}
+use Rattle.desk.specs.declared.Reply.{Reply}
 
 -- "It answers how many it wrote."
-abbrev pub write_reply : Reply ℕ → WriteReply
-write_reply r = record { answer = write_answer r.answer; desk = desk_of r.desk }
+abbrev pub write_reply : Meant ℕ → Reply ℕ
+write_reply r = reply_of r
 
--- document 01's number of an answer, 0 where the plan is written, and the count it carries
-unfoldable pub write_number : WriteAnswer → ℕ
-write_number (writes.Wrote n) = 0
-write_number (writes.Refused r) = number_of r
+-- the count that an answer carries
+unfoldable pub write_counts : Result ℕ Refusal → List ℕ
+write_counts (Ok n) = n ∷ []
+write_counts (Err r) = []
 
-unfoldable pub write_counts : WriteAnswer → List ℕ
-write_counts (writes.Wrote n) = n ∷ []
-write_counts (writes.Refused r) = []
+-- what is answered and left in the room where document 01 answers these octets
+abbrev pub Puts : Answer (List ℕ) → Result ℕ Refusal → List ℕ → List ℕ → Type 0
+Puts octets result before after = (result ≡ answer_of (written octets)) × (after ≡ room_after before octets)

@@ -6,62 +6,45 @@ ghost use Rattle.std.specs.Prelude.{◌≡◌};
 ghost use Rattle.meaning.specs.Desks.{asked};
 ghost use Rattle.meaning.specs.Bytes.{write_plan, written, room_after};
 ghost use Rattle.desk.specs.Desks.{held, Fit};
-ghost use Rattle.writer.specs.Writing.{write_reply};
+ghost use Rattle.writer.specs.Writing.{write_reply, Puts};
 
-use desk::Desk;
-use meaning::{Port, Refusal};
-use room::{put_port, put_slots, put_streams};
+use desk::{Desk, Reply};
+use meaning::{Port, Refusal, Slot, Stream};
+use room::{AsField, put_all};
 
-// What writing a plan answers: how many octets it wrote.
-#[derive(Clone, Copy)]
-pub enum WriteAnswer {
-    Wrote(usize),
-    Refused(Refusal),
-}
-
-// The desk is the one given.
-#[derive(Clone, Copy)]
-pub struct WriteReply {
-    pub answer: WriteAnswer,
-    pub desk: Desk,
-}
-
-// The plan of a desk, written at the front of the caller's room.
-pub fn write(d: Desk, out: &mut [u8]) -> WriteReply
-    requires { Fit d }
-    ensures { (result ≡ write_reply (asked (held d) (written (write_plan out.old (held d)))))
-        × (out.new ≡ room_after out.old (write_plan out.old (held d)))
-        × Fit result.desk }
+// The plan of a desk at the front of the room, and how many octets it took.
+fn put_plan(d: &Desk, out: &mut [u8]) -> Result<usize, Refusal>
+    requires { Fit d.now }
+    ensures { Puts (write_plan out.old (held d.now)) result out.old out.new }
 {
     if !d.opened {
-        return WriteReply {
-            answer: WriteAnswer::Refused(Refusal::OutOfTurn),
-            desk: d,
-        };
+        return Err(Refusal::OutOfTurn);
     }
-    let n = d.nslots;
-    let m = d.nstreams;
-    let streams_at = 16 + 11 * n;
-    let all = streams_at + 20 * m;
+    let slots = &d.slots[..d.nslots];
+    let streams = &d.streams[..d.nstreams];
+    let all = Port::OCTETS + Slot::OCTETS * slots.len() + Stream::OCTETS * streams.len();
     if out.len() < all {
-        return WriteReply {
-            answer: WriteAnswer::Refused(Refusal::NoRoom),
-            desk: d,
-        };
+        return Err(Refusal::NoRoom);
     }
-    let p = Port {
+    let port = Port {
         rate: d.rate,
         cycle: d.cycle,
         guard: d.guard,
         header: d.header,
     };
-    let slots = d.slots;
-    let streams = d.streams;
-    put_port(out, p);
-    put_slots(&mut out[16..], slots, n);
-    put_streams(&mut out[streams_at..], streams, m);
-    WriteReply {
-        answer: WriteAnswer::Wrote(all),
-        desk: d,
-    }
+    let mut at = port.put(out);
+    at += put_all(&mut out[at..], slots);
+    at += put_all(&mut out[at..], streams);
+    Ok(at)
+}
+
+// The plan of a desk, written at the front of the caller's room.
+pub fn write(d: Desk, out: &mut [u8]) -> Reply<usize>
+    requires { Fit d }
+    ensures { (result ≡ write_reply (asked (held d) (written (write_plan out.old (held d)))))
+        × (out.new ≡ room_after out.old (write_plan out.old (held d)))
+        × Fit result.desk }
+{
+    let answer = put_plan(&d, out);
+    Reply { answer, desk: d }
 }

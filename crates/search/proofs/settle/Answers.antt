@@ -23,4 +23,4 @@ pub loop-base-preserved : goal.loop-base-preserved
 loop-base-preserved c =
     let on = goes_on (goal.at.loop-base-preserved c).After-attempt-need in
     let t = c.attempt-need in
-    (counted_on_to c.args.rows.now t.new.seen c.loop-base.w t.result t.ensures.0 (omega arith), on.0, on.1)
+    (counted_on_to c.args.rows.now t.ensures.0 (omega arith), on.0, on.1)

@@ -32,7 +32,7 @@ loop-seen-preserved c =
     let a = c.args in
     let t = c.attempt-need in
     let e = asked (goal.at.loop-seen-preserved c).After-attempt-need in (
-      counted_on_to a.rows.now t.new.seen c.loop-seen.w t.result t.ensures.0 (omega arith),
+      counted_on_to a.rows.now t.ensures.0 (omega arith),
       search_goes_on c.loop-seen.invariant.1 e (busy_grows a.stairs.now c.requires a.rows.now a.own.now),
       omega arith,
     )

@@ -15,13 +15,6 @@ pub head-requires : goal.head-requires
 unfolding all_len total
 head-requires c = record { fits = c.requires; row = c.loop-i-test.true; passed = refl }
 
-pub put-requires : goal.put-requires
-put-requires c = (
-  c.loop-i.invariant.nodes.long,
-  omega (arith, c.requires.few),
-  omega (arith, c.head.ensures, c.requires.few),
-)
-
 pub loop-i-preserved : goal.loop-i-preserved
 loop-i-preserved c =
     let few : c.loop-i.i < 32 = omega (arith, c.requires.few) in

@@ -1,22 +1,12 @@
 -- `stairs::put` meets its contract. The invariant: node k is low, and all nodes are right but the one above k.
 -- The measure: k.
 use mathlib.Core.Path.{◌≡◌, sym, ap, ◌∙◌}
-use Prim.Native.Nat.{ℕ, ◌+◌, ◌/◌}
+use Prim.Native.Nat.{ℕ, ◌/◌}
 use native.Mathlib.Omega.{arith}
 use lib.ListN.{get_or, length-set}
 use lib.Seq.{get_or-set_same}
 use Rattle.stairs.proofs.Tree.{put_leaf, mend_node}
 use Rattle.stairs.proofs.put.Goals as goal
-
-pub loop-k-init : goal.loop-k-init
-loop-k-init c =
-    let a = c.args in (
-      omega arith,
-      omega (arith, c.requires.1),
-      length-set a.tree.now (32 + a.i) a.v ∙ c.requires.0,
-      get_or-set_same a.tree.now (32 + a.i) a.v 0 (omega (arith, c.requires.0, c.requires.1)),
-      λ keys s. s,
-    )
 
 pub loop-k-preserved : goal.loop-k-preserved
 loop-k-preserved c =

@@ -1,0 +1,11 @@
+-- The invariant: so many frames are done, and what is counted has come by w.
+use Rattle.std.proofs.Common.{◌≤◌}
+use Rattle.search.specs.Searches.{table_of, asked_of, Counted}
+use Rattle.frames.proofs.Framing.{FrameNumbers, FramesDone}
+use Rattle.frames.proofs.worst.Given as goal
+
+abbrev pub invariant-loop : goal.invariant-loop
+invariant-loop l =
+    Counted l.rows l.seen l.w × (l.w ≤ 100_000_000) × FrameNumbers (asked_of l.own) l.counter l.base l.come l.later
+    × FramesDone (table_of l.stairs) (asked_of l.own) l.rows.per l.rows.jit l.rows.cost l.rows.n l.frames l.counter
+    l.w l.best

@@ -1,0 +1,57 @@
+-- `writer::put_plan` meets its contract: where the whole plan has room, each field fills the front of what is left.
+use Rattle.std.proofs.Common.{◌≡◌, ℕ, List, ◌++◌, ◌+◌, ◌*◌, length, ◌∙◌, arith, length-append}
+use Rattle.meaning.specs.Bytes.{Field, field_length, port_field, slot_field, field_octets}
+use Rattle.meaning.proofs.Fields.{field_length_lem}
+use Rattle.desk.specs.declared.Desk.{Desk}
+use Rattle.desk.specs.Desks.{port_in, slots_in}
+use Rattle.room.specs.Lengths.{port_length, slot_length}
+use Rattle.room.proofs.Rooms.{octets_of_row, wrote_next, next_fits, row_octets}
+use Rattle.writer.proofs.Writes.{open_of, rate_fits, streams_fit, put_closed, put_no_room, put_open}
+use Rattle.writer.proofs.put_plan.Goals as goal
+
+port_octets : (d : Desk) → length (field_octets (port_field (port_in d))) ≡ 16
+port_octets d = field_length_lem (port_field (port_in d)) ∙ port_length (port_in d)
+
+-- with a row of fields behind it, of k octets each
+with_row : {A : Type 0} (field : A → Field) (k : ℕ) → ((x : A) → field_length (field x) ≡ k) → (w : List ℕ)
+    (xs : List A) → length (w ++ octets_of_row field xs) ≡ length w + k * length xs
+with_row field k each w xs = omega (arith, row_octets field k each xs, length-append w (octets_of_row field xs))
+
+pub returns-then-not-d : goal.returns-then-not-d
+returns-then-not-d c = put_closed c.args.d.now c.requires c.args.out.now c.if-not-d.true
+
+pub shared_ref_as_front-slots : goal.shared_ref_as_front-slots
+shared_ref_as_front-slots c = (open_of c.args.d.now c.requires c.if-not-d.false).slots_few
+
+pub shared_ref_as_front-streams : goal.shared_ref_as_front-streams
+shared_ref_as_front-streams c = (open_of c.args.d.now c.requires c.if-not-d.false).streams_few
+
+pub returns-then-out-all : goal.returns-then-out-all
+returns-then-out-all c =
+    let h = open_of c.args.d.now c.requires c.if-not-d.false in
+    put_no_room c.args.d.now c.requires c.args.out.now c.if-not-d.false
+    (omega (arith, c.if-out-all.true, h.slots_count, h.streams_count))
+
+pub put-at-requires : goal.put-at-requires
+put-at-requires c = (omega (arith, c.if-out-all.false), rate_fits c.args.d.now c.requires c.if-not-d.false)
+
+pub put_all-at-requires-clause-room : goal.put_all-at-requires-clause-room
+put_all-at-requires-clause-room c =
+    next_fits _ (omega (arith, c.if-out-all.false, port_octets c.args.d.now)) c.put-at.ensures
+
+pub put_all-at-requires-2-clause-room : goal.put_all-at-requires-2-clause-room
+put_all-at-requires-2-clause-room c =
+    let d = c.args.d.now in
+    let front = with_row slot_field 11 slot_length (field_octets (port_field (port_in d))) (slots_in d) in
+    next_fits _ (omega (arith, c.if-out-all.false, front, port_octets d))
+    (wrote_next c.put-at.ensures c.put_all-at.ensures)
+
+pub put_all-at-requires-2-clause-fit : goal.put_all-at-requires-2-clause-fit
+put_all-at-requires-2-clause-fit c = streams_fit c.args.d.now c.requires c.if-not-d.false
+
+pub returns : goal.returns
+returns c =
+    let h = open_of c.args.d.now c.requires c.if-not-d.false in
+    put_open c.args.d.now c.requires c.args.out.now c.if-not-d.false
+    (omega (arith, c.if-out-all.false, h.slots_count, h.streams_count)) _ _
+    (wrote_next (wrote_next c.put-at.ensures c.put_all-at.ensures) c.put_all-at-2.ensures)
