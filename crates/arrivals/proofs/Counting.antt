@@ -149,7 +149,7 @@ module _ (per jit cost : List ℕ) (n : ℕ) (fit : RowsFit per jit cost n) wher
       (le_trans few (frames_few x (get_or per k 0) (get_or jit k 0) soon (fit.periods k h).0 (fit.jitters k h).1))
       (fit.costs k h).1
 
-  pub row_load_few : (x i : ℕ) → x ≤ 100_000_000 → i ≤ n → row_load per jit cost i x ≤ i * 40_002_000_000
+  row_load_few : (x i : ℕ) → x ≤ 100_000_000 → i ≤ n → row_load per jit cost i x ≤ i * 40_002_000_000
   unfolding row_load
   row_load_few x i soon h = sum_few i 40_002_000_000 _ (λ k l. frames_cost x k _ soon (omega arith) (le_refl _))
 

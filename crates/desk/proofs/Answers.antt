@@ -10,13 +10,13 @@ use Rattle.meaning.specs.Desks.{Desk as Plan}
 use Rattle.meaning.specs.Promises.{SoundDesk}
 use Rattle.answers.specs.Answers.{answer_of}
 use Rattle.entries.specs.declared.Entries.{Entries}
-use Rattle.entries.specs.declared.EntriesReply.{EntriesReply}
-use Rattle.entries.specs.Entries.{entries_of, held_in, FitEntries, entries_reply}
+use Rattle.entries.specs.Entries.{entries_of, held_in, FitEntries}
+use Rattle.entries.specs.Entries.{Edits as EntriesEdits}
 use Rattle.entries.proofs.Opened.{held_of_entries}
 use Rattle.desk.specs.declared.Desk.{Desk}
 use Rattle.desk.specs.declared.Reply.{Reply}
 use Rattle.desk.specs.Desks.{desk_of, held, Fit, edit_reply}
-use Rattle.desk.specs.Edits.{entries_in, with_entries, answered, result_of}
+use Rattle.desk.specs.Edits.{entries_in, with_entries, answered}
 use Rattle.desk.proofs.Held.{fit_of, held_in_entries, fit_entries}
 
 abbrev pub Told : Type 0
@@ -26,25 +26,6 @@ Told = Result (Unit {0}) Refusal
 abbrev pub Edits : (Plan → Answer Plan) → Desk → Reply (Unit {0}) → Type 0
 Edits call d r = (r ≡ edit_reply (edited (held d) (call (held d)))) × Fit r.desk
 
--- the same call on the entries e gave the answer a, and left them as made
-abbrev pub Made : (Plan → Answer Plan) → Entries → Told → Entries → Type 0
-Made call e a made =
-    (a ≡ answer_of (edited (held_in e) (call (held_in e))).answer)
-    × (made ≡ entries_of (edited (held_in e) (call (held_in e))).desk)
-    × FitEntries made
-
--- as the reply of the entries has it
-pub made_by : (call : Plan → Answer Plan) (e : Entries) (m : EntriesReply) (a : Told)
-    → (m ≡ entries_reply (edited (held_in e) (call (held_in e)))) × FitEntries m.entries → a ≡ result_of m.verdict
-    → Made call e a m.entries
-unfolding edited
-made_by call e m a (k, f) b =
-    (go (call (held_in e)) k, ap (λ (x : EntriesReply). x.entries) k, f)
-  where
-    go : (x : Answer Plan) → m ≡ entries_reply (edited (held_in e) x) → a ≡ answer_of (edited (held_in e) x).answer
-    go (accepted x) k = b ∙ ap (λ (z : EntriesReply). result_of z.verdict) k
-    go (refused why) k = b ∙ ap (λ (z : EntriesReply). result_of z.verdict) k
-
 -- the desk is fit, and its entries are e
 module _ (d : Desk) (f : Fit d) (e : Entries) (q : e ≡ entries_in d) where
   pub may_edit : FitEntries e
@@ -53,12 +34,14 @@ module _ (d : Desk) (f : Fit d) (e : Entries) (q : e ≡ entries_in d) where
   same_held : held_in e ≡ held d
   same_held = ap held_in q ∙ held_in_entries d
 
-  module _ (call : Plan → Answer Plan) (a : Told) (made : Entries) (k : Made call e a made) where
+  -- the same call on the entries gave the answer a, and left them as made
+  module _ (call : Plan → Answer Plan) (a : Told) (made : Entries)
+      (k : EntriesEdits e (call (held_in e)) a made) where
     same_answer : a ≡ answer_of (edited (held d) (call (held d))).answer
-    same_answer = k.0 ∙ ap (λ (y : Plan). answer_of (edited y (call y)).answer) same_held
+    same_answer = k.answer ∙ ap (λ (y : Plan). answer_of (edited y (call y)).answer) same_held
 
     same_made : made ≡ entries_of (edited (held d) (call (held d))).desk
-    same_made = k.1 ∙ ap (λ (y : Plan). entries_of (edited y (call y)).desk) same_held
+    same_made = k.entries ∙ ap (λ (y : Plan). entries_of (edited y (call y)).desk) same_held
 
     holds_made : (x : Plan) → made ≡ entries_of x → held_in made ≡ x
     holds_made x b = ap held_in b ∙ held_of_entries x
@@ -74,7 +57,7 @@ module _ (d : Desk) (f : Fit d) (e : Entries) (q : e ≡ entries_in d) where
         go (accepted x) p l n =
             let t : r ≡ record { answer = Ok tt; desk = desk_of x } =
             b ∙ λ i. answered d (same x p n i) (l i) in
-            (rw (t, p), rw t (fit_of x (subst SoundDesk (holds_made x n) k.2.sound)))
+            (rw (t, p), rw t (fit_of x (subst SoundDesk (holds_made x n) k.fit.sound)))
         go (refused why) p l n =
             let t : r ≡ record { answer = Err why; desk = d } = b ∙ ap (answered d desk) l in
             (rw (t, p) (ap (λ (z : Desk). record { answer = Err why; desk = z }) f.canonical), rw t f)
@@ -83,7 +66,7 @@ module _ (d : Desk) (f : Fit d) (e : Entries) (q : e ≡ entries_in d) where
     pub may_get_stairs : ((y x : Plan) → call y ≡ accepted x → (entries_of x).opened ≡ true)
         → FitEntries made × (a ≡ Ok tt → made.opened ≡ true)
     unfolding edited
-    may_get_stairs opens = (k.2, go (call (held d)) refl same_answer same_made)
+    may_get_stairs opens = (k.fit, go (call (held d)) refl same_answer same_made)
       where
         go : (x : Answer Plan) → call (held d) ≡ x → a ≡ answer_of (edited (held d) x).answer
             → made ≡ entries_of (edited (held d) x).desk → a ≡ Ok tt → made.opened ≡ true

@@ -5,7 +5,7 @@ use mathlib.Core.Bool.{true}
 use mathlib.Core.List.{List, []}
 use Prim.Native.Nat.{ℕ, ◌≤◌, zero-le}
 use native.Mathlib.Omega.{arith}
-use lib.ListN.{take}
+use lib.ListN.{length, take}
 use Rattle.laws.proofs.Rows.{filled_take}
 use Rattle.meaning.specs.declared.Port.{Port}
 use Rattle.meaning.specs.declared.Gate.{Gate}
@@ -73,33 +73,39 @@ with_table e t =
 
 module _ (e : Entries) (h : Open e) (g : Gate) (q : g ≡ gate_in e) where
   -- their runs may be asked for
-  pub may_find : (e.nslots ≤ 32) × GateFits g × Chain 0 (slots_in e) g.cycle
+  pub may_find : (length (slots_in e) ≤ 32) × GateFits g × Chain 0 (slots_in e) g.cycle
   may_find =
       rw q (
-        h.slots_few,
+        omega (arith, h.slots_count, h.slots_few),
         gate_fits (port_in e) (streams_in e) h.sound.port_in,
         gate_chain (port_in e) (streams_in e) (slots_in e) h.sound.chain,
       )
 
-  module _ (found : RunRow) (k : found ≡ run_row (runs g (slots_in e))) where
-    -- their stairs may be built
-    pub may_build : (found.n ≤ 32) × RunsFit g.cycle (take found.n found.row)
-    unfolding run_row
-    may_build =
-        let f : RunsFit g.cycle (runs g (slots_in e)) =
-        rw q (runs_fit (port_in e) (slots_in e) (streams_in e) h.sound) in
-        (rw k f.few, rw (runs_taken (runs g (slots_in e)) found k) f)
+  found_fit : RunsFit g.cycle (runs g (slots_in e))
+  found_fit = rw q (runs_fit (port_in e) (slots_in e) (streams_in e) h.sound)
 
-    -- with them it is the one struct of what is held
-    pub stairs_set : (t : Table) → t ≡ table_of (stairs_of (pairs g.cycle (take found.n found.row)))
-        → with_table e t ≡ desk_of (held_in e)
-    unfolding entries_of filled_entries desk_of filled_desk table_of stairs
-    stairs_set t b =
-        let st : t ≡ table_of (stairs (gate_in e) (slots_in e)) =
-        b
-        ∙ ap (λ (rs : List Run). table_of (stairs_of (pairs g.cycle rs))) (runs_taken (runs g (slots_in e)) found k)
-        ∙ ap (λ (x : Gate). table_of (stairs x (slots_in e))) q in
-        (λ i. with_table (h.struct i) (st i)) ∙ ap desk_of (sym h.holds)
+  module _ (found : RunRow) (k : found ≡ run_row (runs g (slots_in e))) where
+    pub few_found : found.n ≤ 32
+    unfolding run_row
+    few_found = rw k found_fit.few
+
+    module _ (rs : List Run) (r : rs ≡ take found.n found.row) where
+      same_runs : rs ≡ runs g (slots_in e)
+      same_runs = r ∙ runs_taken (runs g (slots_in e)) found k
+
+      -- their stairs may be built
+      pub may_build : (length rs ≤ 32) × RunsFit g.cycle rs
+      may_build = rw same_runs (found_fit.few, found_fit)
+
+      -- with them it is the one struct of what is held
+      pub stairs_set : (t : Table) → t ≡ table_of (stairs_of (pairs g.cycle rs)) → with_table e t ≡ desk_of (held_in e)
+      unfolding entries_of filled_entries desk_of filled_desk table_of stairs
+      stairs_set t b =
+          let st : t ≡ table_of (stairs (gate_in e) (slots_in e)) =
+          b
+          ∙ ap (λ (rs : List Run). table_of (stairs_of (pairs g.cycle rs))) same_runs
+          ∙ ap (λ (x : Gate). table_of (stairs x (slots_in e))) q in
+          (λ i. with_table (h.struct i) (st i)) ∙ ap desk_of (sym h.holds)
 
 -- a desk with a slot more or less is open
 pub added_open : (s : Slot) (y x : Plan) → add_slot s y ≡ accepted x → (entries_of x).opened ≡ true

@@ -2,8 +2,6 @@
 use Rattle.std.specs.Prelude.{Result, Ok, Err}
 use Rattle.meaning.specs.declared.Refusal.{Refusal}
 use Rattle.entries.specs.declared.Entries.{Entries}
-use Rattle.answers.specs.declared.Verdict.{Verdict}
-use Rattle.answers.specs.declared.Verdict.TheVariants.{Accepted, Refused}
 use Rattle.desk.specs.declared.Desk.{Desk}
 use Rattle.desk.specs.declared.Reply.{Reply}
 
@@ -46,8 +44,3 @@ with_entries d e =
 unfoldable pub answered : Desk → Desk → Result (Unit {0}) Refusal → Reply (Unit {0})
 answered d made (Ok u) = record { answer = Ok u; desk = made }
 answered d made (Err why) = record { answer = Err why; desk = d }
-
--- a verdict as a result
-abbrev pub result_of : Verdict → Result (Unit {0}) Refusal
-result_of Accepted = Ok tt
-result_of (Refused why) = Err why

@@ -2,10 +2,9 @@
 ghost use Rattle.std.specs.Prelude.{◌≡◌, true, Ok};
 ghost use Rattle.entries.specs.Entries.{held_in, FitEntries};
 ghost use Rattle.desk.specs.Desks.{desk_of, Fit, far_in, tot_in};
-ghost use Rattle.desk.specs.Edits.{entries_in, with_entries, answered, result_of};
+ghost use Rattle.desk.specs.Edits.{entries_in, with_entries, answered};
 
 use crate::{Desk, Reply};
-use answers::Verdict;
 use entries::Entries;
 use meaning::Refusal;
 use table::Stairs;
@@ -65,12 +64,11 @@ pub fn with_stairs(e: Entries) -> Desk
     requires { FitEntries e × (e.opened ≡ true) }
     ensures { (result ≡ desk_of (held_in e)) × Fit result }
 {
-    let g = entries::gate_of(e);
+    let g = e.gate();
+    let found = gate::find_runs(g, e.held_slots());
+    let t = stairs::build(g.cycle, found.runs());
     let slots = e.slots;
     let streams = e.streams;
-    let found = gate::find_runs(g, slots, e.nslots);
-    let runs = found.row;
-    let t = stairs::build(g.cycle, runs, found.n);
     let far = t.far;
     let tot = t.tot;
     Desk {
@@ -112,14 +110,4 @@ pub fn build_stairs(d: Desk, made: Entries, answer: Result<(), Refusal>) -> Repl
         Err(_) => d,
     };
     Reply { answer, desk }
-}
-
-// The verdict of an edit of the entries as a result.
-pub fn answer(verdict: Verdict) -> Result<(), Refusal>
-    ensures { result ≡ result_of verdict }
-{
-    match verdict {
-        Verdict::Accepted => Ok(()),
-        Verdict::Refused(why) => Err(why),
-    }
 }

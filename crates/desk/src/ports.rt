@@ -5,24 +5,16 @@ ghost use Rattle.meaning.specs.Calls.{open_port};
 ghost use Rattle.ranges.specs.Numbers.{port_of};
 ghost use Rattle.desk.specs.Desks.{held, desk_of, Fit, edit_reply};
 
-use crate::parts::{answer, entries_of, keep_stairs};
+use crate::parts::{entries_of, keep_stairs};
 use crate::{Desk, Reply};
 use meaning::{Slot, Stream};
 use ranges::PortNumbers;
+use rows::Keyed;
 
 // The bare desk: it has no port, and every place is free.
 pub fn bare() -> Desk
     ensures { (result ≡ desk_of bare) × Fit result }
 {
-    let slot = Slot { start: 0, end: 0 };
-    let stream = Stream {
-        id: 0,
-        priority: 0,
-        octets: 0,
-        period: 0,
-        jitter: 0,
-        deadline: 0,
-    };
     Desk {
         opened: false,
         rate: 0,
@@ -30,9 +22,9 @@ pub fn bare() -> Desk
         guard: 0,
         header: 0,
         nslots: 0,
-        slots: [slot; 32],
+        slots: [Slot::free(); 32],
         nstreams: 0,
-        streams: [stream; 64],
+        streams: [Stream::free(); 64],
         nstairs: 0,
         far: [0; 993],
         tot: [0; 993],
@@ -44,6 +36,7 @@ pub fn open_port(d: Desk, p: PortNumbers) -> Reply<()>
     requires { Fit d }
     ensures { (result ≡ edit_reply (edited (held d) (open_port (port_of p) (held d)))) × Fit result.desk }
 {
-    let made = entries::hold_port(entries_of(&d), p);
-    keep_stairs(d, made.entries, answer(made.verdict))
+    let mut made = entries_of(&d);
+    let answer = made.hold_port(p);
+    keep_stairs(d, made, answer)
 }

@@ -5,7 +5,7 @@ ghost use Rattle.meaning.specs.Calls.{add_slot, remove_slot};
 ghost use Rattle.ranges.specs.Numbers.{slot_of};
 ghost use Rattle.desk.specs.Desks.{held, Fit, edit_reply};
 
-use crate::parts::{answer, build_stairs, entries_of};
+use crate::parts::{build_stairs, entries_of};
 use crate::{Desk, Reply};
 
 // The desk with one slot more.
@@ -13,8 +13,9 @@ pub fn add_slot(d: Desk, start: u64, end: u64) -> Reply<()>
     requires { Fit d }
     ensures { (result ≡ edit_reply (edited (held d) (add_slot (slot_of start end) (held d)))) × Fit result.desk }
 {
-    let made = entries::hold_slot(entries_of(&d), start, end);
-    build_stairs(d, made.entries, answer(made.verdict))
+    let mut more = entries_of(&d);
+    let answer = more.hold_slot(start, end);
+    build_stairs(d, more, answer)
 }
 
 // The desk without the slot that has this start.
@@ -22,6 +23,7 @@ pub fn remove_slot(d: Desk, start: u64) -> Reply<()>
     requires { Fit d }
     ensures { (result ≡ edit_reply (edited (held d) (remove_slot start (held d)))) × Fit result.desk }
 {
-    let made = entries::drop_slot(entries_of(&d), start);
-    build_stairs(d, made.entries, answer(made.verdict))
+    let mut fewer = entries_of(&d);
+    let answer = fewer.drop_slot(start);
+    build_stairs(d, fewer, answer)
 }

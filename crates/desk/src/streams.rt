@@ -5,7 +5,7 @@ ghost use Rattle.meaning.specs.Calls.{add_stream, remove_stream};
 ghost use Rattle.ranges.specs.Numbers.{stream_of};
 ghost use Rattle.desk.specs.Desks.{held, Fit, edit_reply};
 
-use crate::parts::{answer, entries_of, keep_stairs};
+use crate::parts::{entries_of, keep_stairs};
 use crate::{Desk, Reply};
 use ranges::StreamNumbers;
 
@@ -14,8 +14,9 @@ pub fn add_stream(d: Desk, j: StreamNumbers) -> Reply<()>
     requires { Fit d }
     ensures { (result ≡ edit_reply (edited (held d) (add_stream (stream_of j) (held d)))) × Fit result.desk }
 {
-    let made = entries::hold_stream(entries_of(&d), j);
-    keep_stairs(d, made.entries, answer(made.verdict))
+    let mut more = entries_of(&d);
+    let answer = more.hold_stream(j);
+    keep_stairs(d, more, answer)
 }
 
 // The desk without the stream that has this id.
@@ -23,6 +24,7 @@ pub fn remove_stream(d: Desk, id: u64) -> Reply<()>
     requires { Fit d }
     ensures { (result ≡ edit_reply (edited (held d) (remove_stream id (held d)))) × Fit result.desk }
 {
-    let made = entries::drop_stream(entries_of(&d), id);
-    keep_stairs(d, made.entries, answer(made.verdict))
+    let mut fewer = entries_of(&d);
+    let answer = fewer.drop_stream(id);
+    keep_stairs(d, fewer, answer)
 }

@@ -1,63 +1,34 @@
 -- The desk handed back is the one given, where a call is a question or is refused.
 -- Assumes nothing.
-use mathlib.Core.Path.{◌≡◌, sym, ap, ◌∙◌}
-use mathlib.Core.List.{List}
-use Prim.Native.Nat.{ℕ}
-use Rattle.meaning.specs.declared.Run.{Run}
-use Rattle.meaning.specs.declared.Stair.{Stair}
+use mathlib.Core.Path.{◌≡◌, refl, sym, ap, ◌∙◌}
+use Rattle.std.specs.Prelude.{ℕ, Result, Ok, Err}
+use Rattle.std.specs.Result.{result_unwrap_or}
+use Rattle.meaning.specs.declared.Refusal.{Refusal}
 use Rattle.meaning.specs.Refusals.{Answer, accepted, refused}
 use Rattle.meaning.specs.Desks.{edited, asked}
 use Rattle.meaning.specs.Desks.{Desk as Plan}
 use Rattle.desk.specs.declared.Desk.{Desk}
-use Rattle.desk.specs.declared.EditReply.{EditReply}
-use Rattle.questions.specs.declared.FigureReply.{FigureReply}
-use Rattle.questions.specs.declared.RunsReply.{RunsReply}
-use Rattle.questions.specs.declared.StairsReply.{StairsReply}
-use Rattle.desk.specs.Desks.{held, Fit, edit_reply}
-use Rattle.questions.specs.Replies.{figure_reply, runs_reply, stairs_reply}
-use Rattle.writer.specs.declared.WriteReply.{WriteReply}
-use Rattle.writer.specs.Writing.{write_reply}
-use Rattle.face.specs.declared.Figured.{Figured}
-use Rattle.face.specs.declared.RunsTold.{RunsTold}
-use Rattle.face.specs.declared.StairsTold.{StairsTold}
-use Rattle.face.specs.declared.PlanWritten.{PlanWritten}
-use Rattle.face.specs.Told.{RefusedKeeps, numbered_figure, numbered_runs, numbered_stairs, numbered_write}
+use Rattle.desk.specs.declared.Reply.{Reply}
+use Rattle.desk.specs.Desks.{desk_of, held, Fit, edit_reply}
+use Rattle.writer.specs.Writing.{write_counts}
+use Rattle.face.specs.Told.{RefusedKeeps, the_one}
 
-pub refused_keeps : (d : Desk) (a : Answer Plan) (r : EditReply) → Fit d → r ≡ edit_reply (edited (held d) a)
+pub refused_keeps : (d : Desk) (a : Answer Plan) (r : Reply (Unit {0})) → Fit d → r ≡ edit_reply (edited (held d) a)
     → RefusedKeeps d r
 unfolding edited
 refused_keeps d (accepted e) r f k why v =
-    let q = ap (λ (x : EditReply). x.verdict) k in
+    let q = ap (λ (x : Reply (Unit {0})). x.answer) k in
     cc
-refused_keeps d (refused w) r f k why v = ap (λ (x : EditReply). x.desk) k ∙ sym f.canonical
+refused_keeps d (refused w) r f k why v = ap (λ (x : Reply (Unit {0})). x.desk) k ∙ sym f.canonical
 
-module _ (d : Desk) (f : Fit d) where
-  pub figure_told : (a : Answer ℕ) (q : FigureReply) (r : Figured) → q ≡ figure_reply (asked (held d) a)
-      → r ≡ numbered_figure (record { figure = q.figure; desk = d })
-      → (r ≡ numbered_figure (figure_reply (asked (held d) a))) × Fit r.desk
-  unfolding asked
-  figure_told a q r k t =
-      (t ∙ λ i. numbered_figure (record { figure = (k i).figure; desk = f.canonical i }), rw t f)
+-- the answer of a question beside the desk given is told as the reply m of the question, which has that desk
+pub given : {A B T : Type 0} (tell : Reply B → T) (d : Desk) → Fit d → (a : Answer A) (q m : Reply B) → q ≡ m
+    → m.desk ≡ desk_of (asked (held d) a).desk → tell (record { answer = q.answer; desk = d }) ≡ tell m
+unfolding asked
+given tell d f a q m k s = λ i. tell (record { answer = (k i).answer; desk = (f.canonical ∙ sym s) i })
 
-  pub runs_told : (a : Answer (List Run)) (q : RunsReply) (r : RunsTold) → q ≡ runs_reply (asked (held d) a)
-      → r ≡ numbered_runs (record { verdict = q.verdict; runs = q.runs; desk = d })
-      → (r ≡ numbered_runs (runs_reply (asked (held d) a))) × Fit r.desk
-  unfolding asked
-  runs_told a q r k t =
-      (t ∙ λ i. numbered_runs (record { verdict = (k i).verdict; runs = (k i).runs; desk = f.canonical i }), rw t f)
-
-  pub stairs_told : (a : Answer (List Stair)) (q : StairsReply) (r : StairsTold) → q ≡ stairs_reply (asked (held d) a)
-      → r ≡ numbered_stairs (record { verdict = q.verdict; stairs = q.stairs; desk = d })
-      → (r ≡ numbered_stairs (stairs_reply (asked (held d) a))) × Fit r.desk
-  unfolding asked
-  stairs_told a q r k t = (
-    t ∙ λ i. numbered_stairs (record { verdict = (k i).verdict; stairs = (k i).stairs; desk = f.canonical i }),
-    rw t f,
-  )
-
-  pub write_told : (a : Answer ℕ) (q : WriteReply) (r : PlanWritten) → q ≡ write_reply (asked (held d) a)
-      → r ≡ numbered_write (record { answer = q.answer; desk = d })
-      → (r ≡ numbered_write (write_reply (asked (held d) a))) × Fit r.desk
-  unfolding asked
-  write_told a q r k t =
-      (t ∙ λ i. numbered_write (record { answer = (k i).answer; desk = f.canonical i }), rw t f)
+-- how many octets were written, 0 on a refusal
+pub counted : (a : Result ℕ Refusal) → result_unwrap_or a 0 ≡ the_one (write_counts a)
+unfolding the_one write_counts
+counted (Ok n) = refl
+counted (Err why) = refl

@@ -1,20 +1,19 @@
 -- The replies of the desk's calls, of the reader and of the writer as numbers, and numbers as what the calls take.
-use Rattle.std.specs.Prelude.{◌≡◌, List, [], ◌∷◌, ℕ}
+use Rattle.std.specs.Prelude.{◌≡◌, List, [], ◌∷◌, ℕ, Err}
+use Rattle.std.specs.Result.{result_unwrap_or}
 use Rattle.meaning.specs.declared.Port.{Port}
 use Rattle.meaning.specs.declared.Stream.{Stream}
 use Rattle.meaning.specs.declared.Refusal.{Refusal}
 use Rattle.desk.specs.declared.Desk.{Desk}
-use Rattle.answers.specs.declared.Verdict.TheVariants.{Refused}
-use Rattle.desk.specs.declared.EditReply.{EditReply}
-use Rattle.questions.specs.declared.FigureReply.{FigureReply}
-use Rattle.questions.specs.declared.RunsReply.{RunsReply}
-use Rattle.questions.specs.declared.StairsReply.{StairsReply}
-use Rattle.answers.specs.Answers.{verdict_number}
-use Rattle.answers.specs.Answers.{figure_number, figure_values}
+use Rattle.gate.specs.declared.RunRow.{RunRow}
+use Rattle.gate.specs.Rows.{run_row}
+use Rattle.table.specs.declared.Table.{Table}
+use Rattle.table.specs.Rows.{table_of}
+use Rattle.answers.specs.Answers.{answer_number, answer_values}
+use Rattle.desk.specs.declared.Reply.{Reply}
 use Rattle.reader.specs.declared.ReadReply.{ReadReply}
-use Rattle.writer.specs.declared.WriteReply.{WriteReply}
 use Rattle.reader.specs.Reading.{read_number, read_places}
-use Rattle.writer.specs.Writing.{write_number, write_counts}
+use Rattle.writer.specs.Writing.{write_counts}
 use Rattle.face.specs.declared.Edited.{Edited}
 use Rattle.face.specs.declared.Figured.{Figured}
 use Rattle.face.specs.declared.RunsTold.{RunsTold}
@@ -46,37 +45,38 @@ unfoldable pub the_one : List ℕ → ℕ
 the_one [] = 0
 the_one (x ∷ xs) = x
 
-abbrev pub numbered : EditReply → Edited
-numbered r = record { number = verdict_number r.verdict; desk = r.desk }
+abbrev pub numbered : Reply (Unit {0}) → Edited
+numbered r = record { number = answer_number r.answer; desk = r.desk }
 
 -- "A refused call hands back the desk it was given" (the order, demand 1), which is d
-abbrev pub RefusedKeeps : Desk → EditReply → Type 0
-RefusedKeeps d r = (why : Refusal) → r.verdict ≡ Refused why → r.desk ≡ d
+abbrev pub RefusedKeeps : Desk → Reply (Unit {0}) → Type 0
+RefusedKeeps d r = (why : Refusal) → r.answer ≡ Err why → r.desk ≡ d
 
-abbrev pub numbered_figure : FigureReply → Figured
+abbrev pub numbered_figure : Reply ℕ → Figured
 numbered_figure r =
     record {
-      number = figure_number r.figure;
-      value = the_one (figure_values r.figure);
+      number = answer_number r.answer;
+      value = the_one (answer_values r.answer);
       desk = r.desk;
     }
 
-abbrev pub numbered_runs : RunsReply → RunsTold
+-- the rows asked for, none on a refusal
+abbrev pub numbered_runs : Reply RunRow → RunsTold
 numbered_runs r =
     record {
-      number = verdict_number r.verdict;
-      count = r.runs.n;
-      runs = r.runs.row;
+      number = answer_number r.answer;
+      count = (result_unwrap_or r.answer (run_row [])).n;
+      runs = (result_unwrap_or r.answer (run_row [])).row;
       desk = r.desk;
     }
 
-abbrev pub numbered_stairs : StairsReply → StairsTold
+abbrev pub numbered_stairs : Reply Table → StairsTold
 numbered_stairs r =
     record {
-      number = verdict_number r.verdict;
-      count = r.stairs.n;
-      far = r.stairs.far;
-      tot = r.stairs.tot;
+      number = answer_number r.answer;
+      count = (result_unwrap_or r.answer (table_of [])).n;
+      far = (result_unwrap_or r.answer (table_of [])).far;
+      tot = (result_unwrap_or r.answer (table_of [])).tot;
       desk = r.desk;
     }
 
@@ -88,10 +88,10 @@ numbered_read r =
       desk = r.desk;
     }
 
-abbrev pub numbered_write : WriteReply → PlanWritten
+abbrev pub numbered_write : Reply ℕ → PlanWritten
 numbered_write r =
     record {
-      number = write_number r.answer;
+      number = answer_number r.answer;
       count = the_one (write_counts r.answer);
       desk = r.desk;
     }

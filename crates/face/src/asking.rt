@@ -7,50 +7,21 @@ ghost use Rattle.desk.specs.Desks.{held, Fit};
 ghost use Rattle.questions.specs.Replies.{runs_reply, stairs_reply, figure_reply};
 ghost use Rattle.face.specs.Told.{numbered_runs, numbered_stairs, numbered_figure};
 
-use crate::numbers::{figure_number, figure_value, verdict_number};
+use crate::numbers::figure_value;
 use crate::{Figured, RunsTold, StairsTold};
-use answers::{Figure, Verdict};
+use answers::number_of_answer;
 use desk::Desk;
 use gate::RunRow;
+use meaning::{Refusal, Run};
 use table::Table;
 
-// The answer to the question for runs as a number, with its rows and the desk.
-fn told_runs(d: Desk, answer: Verdict, found: RunRow) -> RunsTold
-    ensures { result ≡ numbered_runs (record { verdict = answer; runs = found; desk = d }) }
+// The answer to a question for a figure as two numbers, with the desk.
+fn told_figure(d: Desk, answer: Result<u64, Refusal>) -> Figured
+    ensures { result ≡ numbered_figure (record { answer = answer; desk = d }) }
 {
-    let runs = found.row;
-    RunsTold {
-        number: verdict_number(answer),
-        count: found.n as u64,
-        runs,
-        desk: d,
-    }
-}
-
-// The answer to the question for stairs as a number, with its rows and the desk.
-fn told_stairs(d: Desk, answer: Verdict, found: Table) -> StairsTold
-    ensures { result ≡ numbered_stairs (record { verdict = answer; stairs = found; desk = d }) }
-{
-    let far = found.far;
-    let tot = found.tot;
-    StairsTold {
-        number: verdict_number(answer),
-        count: found.n as u64,
-        far,
-        tot,
-        desk: d,
-    }
-}
-
-// The answer to the question for a figure as two numbers, with the desk.
-fn told_figure(d: Desk, answer: Figure) -> Figured
-    ensures { result ≡ numbered_figure (record { figure = answer; desk = d }) }
-{
-    let number = figure_number(answer);
-    let value = figure_value(answer);
     Figured {
-        number,
-        value,
+        number: number_of_answer(&answer),
+        value: figure_value(answer),
         desk: d,
     }
 }
@@ -60,10 +31,16 @@ pub fn desk_runs(d: Desk) -> RunsTold
     requires { Fit d }
     ensures { (result ≡ numbered_runs (runs_reply (asked (held d) (ask_runs (held d))))) × Fit result.desk }
 {
-    let reply = questions::runs(d);
-    let answer = reply.verdict;
-    let found = reply.runs;
-    told_runs(d, answer, found)
+    let answer = questions::runs(d).answer;
+    let no_run = [Run::default(); 32];
+    let found = answer.unwrap_or(RunRow { n: 0, row: no_run });
+    let runs = found.row;
+    RunsTold {
+        number: number_of_answer(&answer),
+        count: found.n as u64,
+        runs,
+        desk: d,
+    }
 }
 
 // The stairs, by rising distance.
@@ -71,10 +48,22 @@ pub fn desk_stairs(d: Desk) -> StairsTold
     requires { Fit d }
     ensures { (result ≡ numbered_stairs (stairs_reply (asked (held d) (ask_stairs (held d))))) × Fit result.desk }
 {
-    let reply = questions::stairs(d);
-    let answer = reply.verdict;
-    let found = reply.stairs;
-    told_stairs(d, answer, found)
+    let answer = questions::stairs(d).answer;
+    let none = [0; 993];
+    let found = answer.unwrap_or(Table {
+        n: 0,
+        far: none,
+        tot: none,
+    });
+    let far = found.far;
+    let tot = found.tot;
+    StairsTold {
+        number: number_of_answer(&answer),
+        count: found.n as u64,
+        far,
+        tot,
+        desk: d,
+    }
 }
 
 // Interference V(t).
@@ -83,9 +72,7 @@ pub fn desk_interference(d: Desk, t: u64) -> Figured
     ensures { (result ≡ numbered_figure (figure_reply (asked (held d) (ask_interference t (held d)))))
         × Fit result.desk }
 {
-    let reply = questions::interference(d, t);
-    let answer = reply.figure;
-    told_figure(d, answer)
+    told_figure(d, questions::interference(d, t).answer)
 }
 
 // The response bound of the stream with this id.
@@ -93,7 +80,5 @@ pub fn desk_response(d: Desk, id: u64) -> Figured
     requires { Fit d }
     ensures { (result ≡ numbered_figure (figure_reply (asked (held d) (ask_response id (held d))))) × Fit result.desk }
 {
-    let reply = questions::response(d, id);
-    let answer = reply.figure;
-    told_figure(d, answer)
+    told_figure(d, questions::response(d, id).answer)
 }

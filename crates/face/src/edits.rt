@@ -7,25 +7,26 @@ ghost use Rattle.desk.specs.Desks.{held, desk_of, Fit, edit_reply};
 ghost use Rattle.face.specs.Told.{port_from, stream_from, numbered, RefusedKeeps};
 
 use crate::Edited;
-use answers::Verdict;
-use desk::{Desk, EditReply};
+use desk::{Desk, Reply};
 use ranges::{PortNumbers, StreamNumbers};
 
 // The reply to an edit of the desk d, with its answer as a number. A refused edit hands d itself back, so that the
 // reply's desk is copied only where it is another.
-fn told_edit(d: Desk, reply: EditReply) -> Edited
+#[tactic(auto, unfolding(answers::specs::Answers::answer_number))]
+fn told_edit(d: Desk, reply: Reply<()>) -> Edited
     requires { RefusedKeeps d reply }
     ensures { result ≡ numbered reply }
 {
-    let verdict = reply.verdict;
-    if let Verdict::Refused(why) = verdict {
-        return Edited {
+    match reply.answer {
+        Ok(_) => Edited {
+            number: 0,
+            desk: reply.desk,
+        },
+        Err(why) => Edited {
             number: answers::number(why),
             desk: d,
-        };
+        },
     }
-    let e = reply.desk;
-    Edited { number: 0, desk: e }
 }
 
 // The bare desk.

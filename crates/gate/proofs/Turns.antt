@@ -61,7 +61,8 @@ free_start g (s ∷ post) ok h =
 -- ---- the runs of a walk
 
 -- no more than slots
-walked_few : (g : Gate) (first far before : ℕ) (post : List Slot) → length (walked g first far before post) ≤ length post
+walked_few : (g : Gate) (first far before : ℕ) (post : List Slot)
+    → length (walked g first far before post) ≤ length post
 unfolding walked run_if
 walked_few g first far before [] = zero-le
 walked_few g first far before (s ∷ post) =

@@ -149,7 +149,8 @@ found_is g pre s post before ok e =
 -- behind slot y
 rest_walked : (g : Gate) (pre : List Slot) (y : Slot) (post : List Slot)
     → Chain 0 ((pre ++ y ∷ []) ++ post) g.cycle
-    → chain_from g (pre ++ y ∷ []) post ≡ walked g (first_start ((pre ++ y ∷ []) ++ post)) (first_hang (reach_of g) ((pre ++ y ∷ []) ++ post))
+    → chain_from g (pre ++ y ∷ []) post
+    ≡ walked g (first_start ((pre ++ y ∷ []) ++ post)) (first_hang (reach_of g) ((pre ++ y ∷ []) ++ post))
     (y.end + g.cycle) post
 unfolding chain_from walked
 rest_walked g pre y [] ok = refl

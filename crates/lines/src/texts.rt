@@ -13,6 +13,7 @@ fn places(n: u64) -> usize
 }
 
 // The digits of a number at the front of the room: the last one first, from behind.
+// Stays: no plainer, because write! answers by its type that a room may be too short, which a requires rules out here.
 pub fn put_decimal(out: &mut [u8], n: u64) -> usize
     requires { length (decimal n) ≤ length out.old }
     ensures { Wrote (decimal n) result out.old out.new }
@@ -27,6 +28,7 @@ pub fn put_decimal(out: &mut [u8], n: u64) -> usize
 }
 
 // A word and a number behind it.
+#[tactic(auto, using(room::proofs::Rooms::wrote_next))]
 pub fn put_told(out: &mut [u8], word: &[u8], n: u64) -> usize
     requires { length word.now + length (decimal n) ≤ length out.old }
     ensures { Wrote (word.now ++ decimal n) result out.old out.new

@@ -35,7 +35,11 @@ tree_none = record {
 kept : (tree : List ℕ) (k v m : ℕ) → ¬ (m ≡ k) → ¬ (2 * m ≡ k) → ¬ (2 * m + 1 ≡ k) → NodeRight tree m
     → NodeRight (set tree k v) m
 kept tree k v m a b c h =
-    rw (get_or-set_other tree k m v 0 a, get_or-set_other tree k (2 * m) v 0 b, get_or-set_other tree k (2 * m + 1) v 0 c)
+    rw (
+      get_or-set_other tree k m v 0 a,
+      get_or-set_other tree k (2 * m) v 0 b,
+      get_or-set_other tree k (2 * m + 1) v 0 c,
+    )
     h
 
 -- row i's leaf: only the node above it can be wrong

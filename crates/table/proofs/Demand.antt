@@ -61,7 +61,7 @@ module _ (g : Gate) (ss : List Slot) (far tot : List ℕ) (n : ℕ)
       }
 
   -- such rows fit, where they are 993 long and there are at most 32 runs
-  pub rows_fit_table : length far ≡ 993 → length tot ≡ 993 → has_free g ss ≡ true → length (runs g ss) ≤ 32
+  rows_fit_table : length far ≡ 993 → length tot ≡ 993 → has_free g ss ≡ true → length (runs g ss) ≤ 32
       → TableFits g.cycle far tot n
   rows_fit_table lf lt free few =
       let (c, h, e) = (free_cell g ss).0 free in

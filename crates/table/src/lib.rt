@@ -21,8 +21,8 @@ pub struct Stairs<'a> {
     pub ghost fits: { StairsFit cycle far.now tot.now },
 }
 
-// The last of the totals, 0 with none.
-fn last(tot: &[u32]) -> u32
+// The last of the totals, 0 with none: of all stairs it is all blocked cells.
+pub fn all_blocked(tot: &[u32]) -> u32
     ensures { result ≡ all_in tot.now (length tot.now) }
 {
     tot.last().copied().unwrap_or(0)
@@ -33,7 +33,7 @@ impl<'a> Stairs<'a> {
     pub fn all_blocked(&self) -> u32
         ensures { result ≡ all_in self.now.tot.now (length self.now.tot.now) }
     {
-        last(self.tot)
+        all_blocked(self.tot)
     }
 
     // V(t): the whole cycles in t times all blocked cells, plus the total of the last stair that the remainder reaches.
@@ -42,7 +42,7 @@ impl<'a> Stairs<'a> {
     {
         let u = t % self.cycle;
         let reached = self.far.partition_point(|d| *d <= u);
-        let rest = last(&self.tot[..reached]) as u64;
+        let rest = all_blocked(&self.tot[..reached]) as u64;
         (t / self.cycle) as u64 * self.all_blocked() as u64 + rest
     }
 }

@@ -18,7 +18,7 @@ abbrev pub unknown : UnknownRate
 unknown = record {}
 
 -- what a time tells: it is that time, and so is any other at that rate
-pub known_is : (rate t k : ℕ) → Ok k ≡ timed rate t → k ≡ t
+known_is : (rate t k : ℕ) → Ok k ≡ timed rate t → k ≡ t
 unfolding timed
 known_is rate t k = go (within 1 5 rate)
   where
@@ -26,7 +26,7 @@ known_is rate t k = go (within 1 5 rate)
     go true e = cc
     go false e = cc
 
-pub known_time : (rate t k u : ℕ) → Ok k ≡ timed rate t → Ok u ≡ timed rate u
+known_time : (rate t k u : ℕ) → Ok k ≡ timed rate t → Ok u ≡ timed rate u
 unfolding timed
 known_time rate t k u = go (within 1 5 rate)
   where

@@ -12,15 +12,6 @@ product c =
     mul-le-mul {n₁ = a.x + a.jitter} {m₁ = a.inv} {n₂ = 200_000_000} {m₂ = 4_294_967_295}
     (omega (arith, c.requires)) (omega (arith, c.ranges.inv))
 
-pub overflow_mul-result : goal.overflow_mul-result
-overflow_mul-result c = omega (arith, product c)
-
-pub overflow_cast-result-3 : goal.overflow_cast-result-3
-overflow_cast-result-3 c = omega (arith, product c)
-
-pub overflow_add-result-2 : goal.overflow_add-result-2
-overflow_add-result-2 c = omega (arith, product c)
-
 pub returns : goal.returns
 returns c =
     let a = c.args in

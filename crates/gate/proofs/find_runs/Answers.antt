@@ -15,7 +15,11 @@ use Rattle.gate.proofs.Turns.{
   row_across,
 }
 use Rattle.gate.proofs.find_runs.Goals as goal
-use Rattle.gate.proofs.find_runs.Goals.{After-hang_ends-ends, in_default-via-in-Some+in_default, in_default-via-in_default}
+use Rattle.gate.proofs.find_runs.Goals.{
+  After-hang_ends-ends,
+  in_default-via-in-Some+in_default,
+  in_default-via-in_default,
+}
 
 known : (c : After-hang_ends-ends)
     → Known c.args.g c.args.slots.now c.in-Some-Some.first.now c.in-Some-Some.last.now

@@ -26,7 +26,8 @@ loop-i-preserved c =
     elim c.match-get.branch [
       | in-Some w ↦
           let (h, at) = w.in-Some.ensures.lookup.3 in
-          w.ends-is ∙ stops_next k ss i c.loop-i.ends (rw next at c.loop-i.invariant) h (rw (at no_slot) at w.if-t-s.true)
+          w.ends-is
+          ∙ stops_next k ss i c.loop-i.ends (rw next at c.loop-i.invariant) h (rw (at no_slot) at w.if-t-s.true)
       | in_default-2 w ↦
           let (h, at) = w.in-Some.ensures.lookup.3 in
           w.ends-is ∙ stops_own k ss i h (rw (at no_slot) at w.if-t-s.false)

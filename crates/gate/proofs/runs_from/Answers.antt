@@ -23,7 +23,8 @@ here c = let (x, y) = c.in-Some.ensures.steps in at_slot (rw (x, y) at c.loop-s.
 
 pub overflow_add-s : goal.overflow_add-s
 overflow_add-s c =
-    let h = here (goal.at.overflow_add-s c).In-Some in omega (arith, h.some, h.near, h.stop_in, c.requires.fits.cycle_most)
+    let h = here (goal.at.overflow_add-s c).In-Some in
+    omega (arith, h.some, h.near, h.stop_in, c.requires.fits.cycle_most)
 
 pub run_with-requires : goal.run_with-requires
 run_with-requires c =
@@ -48,9 +49,10 @@ loop-s-preserved c =
 pub returns : goal.returns
 returns c =
     let w = c.loop-s.invariant in
+    let slots = iter_rest (zip_first c.loop-s.s-iterator) in
     walk_end w (
     elim c.in-None.ensures.steps [
       | inl x ↦ omega (arith, x.1.0)
-      | inr y ↦ omega (arith, y.1.0, ap length w.fits.stops, hang_ends_length (reach_of c.args.g) (iter_rest (zip_first c.loop-s.s-iterator)))
+      | inr y ↦ omega (arith, y.1.0, ap length w.fits.stops, hang_ends_length (reach_of c.args.g) slots)
     ]
     )

@@ -1,10 +1,7 @@
--- `questions::stairs` meets its contract: the stairs stored in a fit open desk are those of its slots.
-use Rattle.questions.proofs.Asking.{stairs_closed, stairs_open}
+-- `questions::stairs` meets its contract: the answer beside the desk that was given.
+use Rattle.table.specs.Rows.{table_of}
+use Rattle.questions.proofs.Asking.{rows_asked}
 use Rattle.questions.proofs.stairs.Goals as goal
 
-pub returns-then-d : goal.returns-then-d
-returns-then-d c =
-    (stairs_open c.args.d c.requires c.if-d.true, c.requires)
-
 pub returns : goal.returns
-returns c = (stairs_closed c.args.d c.requires c.if-d.false, c.requires)
+returns c = (rows_asked c.args.d c.requires table_of _ _ c.stairs_of-answer.ensures, c.requires)

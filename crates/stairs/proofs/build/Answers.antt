@@ -2,7 +2,8 @@
 use Rattle.std.proofs.Common.{refl, ◌≡◌, ◌+◌, ◌/◌, ◌%◌, get_or, get_or-set_same, arith}
 use Rattle.stairs.specs.Heads.{done}
 use Rattle.stairs.proofs.Tree.{standing_put}
-use Rattle.stairs.proofs.Turns.{Chosen, moved_on, left_falls, so_far_start, first_chosen, so_far_room, so_far_stair, so_far_covered, so_far_end, moving_on}
+use Rattle.stairs.proofs.Turns.{Chosen, moved_on, left_falls, so_far_start, first_chosen}
+use Rattle.stairs.proofs.Turns.{so_far_room, so_far_stair, so_far_covered, so_far_end, moving_on}
 use Rattle.stairs.proofs.build.Goals as goal
 use Rattle.stairs.proofs.build.Goals.{After-total_of-t, then-top-t, else-top-t}
 

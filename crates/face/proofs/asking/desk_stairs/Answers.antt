@@ -1,10 +1,23 @@
 -- `face::asking::desk_stairs` meets its contract.
-use Rattle.face.proofs.Given.{stairs_told}
+use mathlib.Core.Path.{refl, sym, ap, ◌∙◌}
+use Rattle.std.specs.Result.{result_unwrap_or}
+use Rattle.meaning.specs.Calls.{ask_stairs}
+use Rattle.table.proofs.Rows.{table_none}
+use Rattle.desk.specs.Desks.{held}
+use Rattle.face.specs.Told.{numbered_stairs}
+use Rattle.face.proofs.Given.{given}
 use Rattle.face.proofs.asking.desk_stairs.Goals as goal
 
-pub stairs-reply-requires : goal.stairs-reply-requires
-stairs-reply-requires c = c.requires
+pub stairs-requires : goal.stairs-requires
+stairs-requires c = c.requires
 
 pub returns : goal.returns
 returns c =
-    stairs_told _ c.requires _ _ _ c.stairs-reply.ensures.0 c.told_stairs.ensures
+    let d = c.args.d in
+    let rows = c.unwrap_or-found.ensures ∙ ap (result_unwrap_or c.stairs.result.answer) (sym table_none) in
+    let number = c.number_of_answer.ensures in
+    (
+      (λ i. record { number = number i; count = (rows i).n; far = (rows i).far; tot = (rows i).tot; desk = d })
+          ∙ given numbered_stairs d c.requires (ask_stairs (held d)) _ _ c.stairs.ensures.0 refl,
+      c.requires,
+    )

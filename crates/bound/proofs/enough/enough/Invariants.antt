@@ -1,0 +1,7 @@
+-- The invariant: what is counted of the rows without jitter has come by w.
+use Rattle.std.proofs.Common.{◌≤◌}
+use Rattle.search.specs.Searches.{Counted}
+use Rattle.bound.proofs.enough.enough.Given as goal
+
+abbrev pub invariant-loop : goal.invariant-loop
+invariant-loop l = Counted l.calm l.seen l.w × (l.w ≤ 100_000_000)
