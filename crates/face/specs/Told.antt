@@ -12,9 +12,8 @@ use Rattle.table.specs.Rows.{table_of}
 use Rattle.answers.specs.Answers.{answer_number, answer_values}
 use Rattle.desk.specs.declared.Reply.{Reply}
 use Rattle.reader.specs.declared.ReadReply.{ReadReply}
-use Rattle.writer.specs.declared.WriteReply.{WriteReply}
 use Rattle.reader.specs.Reading.{read_number, read_places}
-use Rattle.writer.specs.Writing.{write_number, write_counts}
+use Rattle.writer.specs.Writing.{write_counts}
 use Rattle.face.specs.declared.Edited.{Edited}
 use Rattle.face.specs.declared.Figured.{Figured}
 use Rattle.face.specs.declared.RunsTold.{RunsTold}
@@ -89,10 +88,10 @@ numbered_read r =
       desk = r.desk;
     }
 
-abbrev pub numbered_write : WriteReply → PlanWritten
+abbrev pub numbered_write : Reply ℕ → PlanWritten
 numbered_write r =
     record {
-      number = write_number r.answer;
+      number = answer_number r.answer;
       count = the_one (write_counts r.answer);
       desk = r.desk;
     }

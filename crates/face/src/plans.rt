@@ -7,37 +7,28 @@ ghost use Rattle.reader.specs.Reading.{read_reply};
 ghost use Rattle.writer.specs.Writing.{write_reply};
 ghost use Rattle.face.specs.Told.{numbered_read, numbered_write};
 
-use crate::numbers::{read_number, read_place, write_count, write_number};
 use crate::{PlanRead, PlanWritten};
+use answers::{number, number_of_answer};
 use desk::Desk;
 use reader::ReadReply;
-use writer::WriteAnswer;
 
 // The reply of the reader, with its answer as two numbers.
+#[tactic(auto, unfolding(reader::specs::Reading::read_number, reader::specs::Reading::read_places, crate::specs::Told::the_one))]
 fn told_read(reply: ReadReply) -> PlanRead
     ensures { result ≡ numbered_read reply }
 {
-    let answer = reply.answer;
-    let d = reply.desk;
-    let number = read_number(answer);
-    let place = read_place(answer);
-    PlanRead {
-        number,
-        place,
-        desk: d,
-    }
-}
-
-// The answer of the writer as two numbers, with the desk.
-fn told_write(d: Desk, answer: WriteAnswer) -> PlanWritten
-    ensures { result ≡ numbered_write (record { answer = answer; desk = d }) }
-{
-    let number = write_number(answer);
-    let count = write_count(answer);
-    PlanWritten {
-        number,
-        count,
-        desk: d,
+    let desk = reply.desk;
+    match reply.answer {
+        Ok(_) => PlanRead {
+            number: 0,
+            place: 0,
+            desk,
+        },
+        Err(at) => PlanRead {
+            number: number(at.why),
+            place: at.place as u64,
+            desk,
+        },
     }
 }
 
@@ -56,7 +47,10 @@ pub fn desk_write(d: Desk, room: &mut [u8]) -> PlanWritten
         × (room.new ≡ room_after room.old (write_plan room.old (held d)))
         × Fit result.desk }
 {
-    let reply = writer::write(d, room);
-    let answer = reply.answer;
-    told_write(d, answer)
+    let answer = writer::write(d, room).answer;
+    PlanWritten {
+        number: number_of_answer(&answer),
+        count: answer.unwrap_or(0) as u64,
+        desk: d,
+    }
 }

@@ -4,7 +4,8 @@ use mathlib.Core.Path.{◌≡◌, refl, sym, ap, ◌∙◌}
 use mathlib.Core.Bool.{true, false}
 use Prim.Native.Nat.{ℕ, ◌≤◌, ◌<◌}
 use borrow.Author.Tests.{lt-ltb}
-use Rattle.std.specs.Prelude.{Result, Ok, Err}
+use Rattle.std.specs.Prelude.{Result, Ok, Err, IsErrAnd}
+use Rattle.std.proofs.lemmas.Result.{err_from_is_err_and}
 use Rattle.meaning.specs.declared.Refusal.{Refusal}
 use Rattle.meaning.specs.declared.Refusal.TheVariants.{OutOfTurn, OverHorizon}
 use Rattle.meaning.specs.Ranges.{horizon}
@@ -24,6 +25,11 @@ use Rattle.desk.specs.Desks.{held, Fit, desk_of, reply_of, slots_in, gate_in, fa
 use Rattle.desk.proofs.Held.{held_bare}
 use Rattle.desk.proofs.OpenFits.{table_in, open_fits, fit_demand_three}
 use Rattle.questions.specs.Replies.{answer_by}
+
+-- a refusal that is handed on is the answer's
+pub handed_on : {B : Type 0} (r m : Result B Refusal) (x why : Refusal) → IsErrAnd r (λ y. y ≡ x) → x ≡ why
+    → m ≡ Err why → r ≡ m
+handed_on r m x why k w q = let p = err_from_is_err_and r k in rw (p.1, p.2, w) (sym q)
 
 -- the answer x beside the desk d
 abbrev replied : {A : Type 0} → Result A Refusal → Desk → Reply A

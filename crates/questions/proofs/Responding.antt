@@ -11,7 +11,7 @@ use lib.ListN.{length, get_or}
 use lib.Dec.{ltb, eqb}
 use borrow.Author.Tests.{eqb-true}
 use Rattle.std.specs.Prelude.{Option, None, Some, Result, Ok, Err}
-use Rattle.std.specs.Option.{unwrap_or}
+use Rattle.std.specs.Option.{is_some, ok_or}
 use Rattle.std.specs.List.{position}
 use Rattle.std.proofs.lemmas.List.Quantifiers.{position-Some}
 use Rattle.laws.specs.Lists.{any, find, place_by, without, Mem}
@@ -19,6 +19,7 @@ use Rattle.laws.specs.Numbers.{Mono}
 use Rattle.laws.proofs.Inserting.{find_none}
 use Rattle.laws.proofs.Without.{mem_get, place_found}
 use Rattle.meaning.specs.declared.Stream.{Stream}
+use Rattle.meaning.specs.declared.Refusal.{Refusal}
 use Rattle.meaning.specs.declared.Refusal.TheVariants.{NotHeld, Late}
 use Rattle.meaning.specs.Ranges.{octet_limit}
 use Rattle.meaning.specs.Interference.{interference, by_stairs}
@@ -31,11 +32,12 @@ use Rattle.meaning.proofs.Windows.{all_at_most_cycle}
 use Rattle.table.specs.Lookup.{all_in, stairs_in, stairs_v}
 use Rattle.table.proofs.Demand.{all_is, rows_give_interference}
 use Rattle.table.proofs.Reached.{all_take, lent_v}
-use Rattle.bound.specs.Answers.{response_of, StreamFits, Asks}
+use Rattle.ahead.specs.Unpacked.{StreamFits}
+use Rattle.bound.specs.Answers.{response_of, Asks}
 use Rattle.bound.proofs.Others.{others_without}
 use Rattle.rows.specs.Rows.{no_stream}
-use Rattle.rows.proofs.Searching.{place_or_end}
-use Rattle.entries.proofs.Places.{some_held, none_held}
+use Rattle.rows.proofs.Searching.{place_some, some_any}
+use Rattle.entries.proofs.Places.{not_found}
 use Rattle.answers.specs.Answers.{answer_of}
 use Rattle.desk.specs.declared.Desk.{Desk}
 use Rattle.desk.specs.Desks.{held, Fit, port_in, slots_in, streams_in, gate_in, far_in, tot_in}
@@ -56,10 +58,17 @@ judged_verdict i (M.some r) = go (ltb i.deadline r)
     go true = refl
     go false = refl
 
--- the place where a search ends, the length with none
-searched : (id : ℕ) (js : List Stream) (o : Option ℕ) → position (has_id id) js ≡ o
-    → unwrap_or o (length js) ≡ place_by (has_id id) js
-searched id js o e = ap (λ (x : Option ℕ). unwrap_or x (length js)) (sym e) ∙ place_or_end (has_id id) js _ refl
+-- what a search found, from the answer that is made of it
+module _ (id : ℕ) (js : List Stream) (o : Option ℕ) (at : o ≡ position (has_id id) js) where
+  pub found_none : (x : Refusal) → Err x ≡ ok_or o NotHeld → (any (has_id id) js ≡ false) × (x ≡ NotHeld)
+  found_none x e = not_found (λ (j : Stream). j.id) id js o at NotHeld x e
+
+  pub found_some : (p : ℕ) → Ok p ≡ ok_or o NotHeld → position (has_id id) js ≡ Some p
+  found_some p e = sym at ∙ go o e
+    where
+      go : (q : Option ℕ) → ◌≡◌ {A = Result ℕ Refusal} (Ok p) (ok_or q NotHeld) → q ≡ Some p
+      go None g = cc
+      go (Some r) g = cc
 
 module _ (d : Desk) (f : Fit d) (o : d.opened ≡ true) (id : ℕ) where
   h : OpenFits d
@@ -70,17 +79,11 @@ module _ (d : Desk) (f : Fit d) (o : d.opened ≡ true) (id : ℕ) where
   unfolding ask_response
   asked_open = ap (ask_response id) h.holds
 
-  pub not_held : position (has_id id) (streams_in d) ≡ None → ask_response id (held d) ≡ refused NotHeld
+  pub not_held : any (has_id id) (streams_in d) ≡ false → ask_response id (held d) ≡ refused NotHeld
   unfolding respond
-  not_held e = asked_open ∙ ap (respond (port_in d) (slots_in d) (streams_in d)) none_found
-    where
-      end : length (streams_in d) ≡ place_by (has_id id) (streams_in d)
-      end = searched id (streams_in d) None e
-
-      none_found : find (has_id id) (streams_in d) ≡ M.none
-      none_found =
-          (find_none (has_id id) (streams_in d)).1
-          (none_held (λ (j : Stream). j.id) id (streams_in d) (length (streams_in d)) end (omega arith))
+  not_held e =
+      asked_open
+      ∙ ap (respond (port_in d) (slots_in d) (streams_in d)) ((find_none (has_id id) (streams_in d)).1 e)
 
   -- V by the stairs stored is V of the slots held
   same_v : stairs_v d.cycle (far_in d) (tot_in d) ≡ interference (gate_in d) (slots_in d)
@@ -108,13 +111,13 @@ module _ (d : Desk) (f : Fit d) (o : d.opened ≡ true) (id : ℕ) where
     rest = without p (streams_in d)
 
     pub inside : p < length (streams_in d)
-    inside = (position-Some (has_id id) (streams_in d) p no_stream at).0
+    inside = (place_some (has_id id) (streams_in d) p at).1
 
     here : p ≡ place_by (has_id id) (streams_in d)
-    here = searched id (streams_in d) (Some p) at
+    here = (place_some (has_id id) (streams_in d) p at).0
 
     is_held : any (has_id id) (streams_in d) ≡ true
-    is_held = some_held (λ (j : Stream). j.id) id (streams_in d) p here inside
+    is_held = sym (some_any (has_id id) (streams_in d)) ∙ ap is_some at
 
     found : find (has_id id) (streams_in d) ≡ M.some own
     found =

@@ -3,8 +3,6 @@
 
 mod responses;
 
-
-
 ghost use Rattle.std.specs.Prelude.{◌≡◌, true, false, MatchResult};
 ghost use Rattle.meaning.specs.declared.Refusal.TheVariants.{OutOfTurn};
 ghost use Rattle.meaning.specs.Desks.{asked};
@@ -20,7 +18,6 @@ use gate::RunRow;
 use meaning::Refusal;
 pub use responses::response;
 use search::HORIZON;
-
 use table::Table;
 
 // What every question asks first: that a port is open.
@@ -40,8 +37,8 @@ fn runs_of(d: &Desk) -> Result<RunRow, Refusal>
     ensures { result ≡ answer_by run_row (ask_runs (held d.now)) }
 {
     opened(d)?;
-    let g = desk::entries_of(d).gate();
-    Ok(gate::find_runs(g, &d.slots[..d.nslots]))
+    let e = desk::entries_of(d);
+    Ok(gate::find_runs(e.gate(), e.held_slots()))
 }
 
 // The stairs that the desk stores.

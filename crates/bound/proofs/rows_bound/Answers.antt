@@ -1,8 +1,8 @@
 -- `bound::rows_bound` meets its contract: none where no window closes, and else the largest response of the frames
 -- that are enough.
 use Rattle.std.proofs.Common.{◌≡◌, ℕ, ◌+◌, ◌-◌, replicate, ap₂, arith}
-use Rattle.search.specs.Searches.{table_of, asked_of}
-use Rattle.arrivals.proofs.Arriving.{frames_grow}
+use Rattle.search.specs.Searches.{table_of, asked_of, asked_stream}
+use Rattle.meaning.proofs.Arrivals.{counted, most_grows}
 use Rattle.bound.proofs.Bounding.{zeros_in, endless_first, endless_window, beside_in, bound_within}
 use Rattle.bound.proofs.rows_bound.Goals as goal
 
@@ -21,12 +21,11 @@ returns-in_err-b c =
 pub overflow_sub-all : goal.overflow_sub-all
 overflow_sub-all c =
     let own = c.args.own.now in
-    let w = c.in_ok-b.ensures in
     omega (
       arith,
       c.frames_in.ensures.0,
       c.frames_in-2.ensures.0,
-      frames_grow 0 c.in_ok-b.b own.period own.jitter (omega arith) own.fits.period_least,
+      most_grows (counted (asked_stream own) (omega (arith, own.fits.period_least))) 0 c.in_ok-b.b (omega arith),
     )
 
 -- the difference of two counts, from the counts

@@ -1,16 +1,16 @@
 -- `questions::figure_of` meets its contract: the stairs of a fit open desk give V, up to the horizon.
 use mathlib.Core.Path.{refl, sym, ap}
-use Rattle.std.proofs.lemmas.Result.{err_from_is_err_and}
+use Rattle.meaning.specs.declared.Refusal.TheVariants.{OutOfTurn}
 use Rattle.meaning.specs.Ranges.{horizon}
 use Rattle.answers.specs.Answers.{answer_of}
-use Rattle.questions.proofs.Asking.{figure_closed, figure_over, figure_open}
+use Rattle.questions.proofs.Asking.{handed_on, figure_closed, figure_over, figure_open}
 use Rattle.questions.proofs.figure_of.Goals as goal
 
 pub returns-in_err-opened : goal.returns-in_err-opened
 returns-in_err-opened c =
-    let p = err_from_is_err_and c.from_residual.result c.from_residual.ensures.1 in
-    rw (p.1, p.2, c.in_err-opened.ensures.0)
-    (sym (ap answer_of (figure_closed c.args.d.now c.in_err-opened.ensures.1 c.args.t)))
+    let (why, shut) = c.in_err-opened.ensures in
+    handed_on _ _ _ OutOfTurn c.from_residual.ensures.1 why
+    (ap answer_of (figure_closed c.args.d.now shut c.args.t))
 
 pub returns-then-t-gt-HORIZON : goal.returns-then-t-gt-HORIZON
 unfolding horizon

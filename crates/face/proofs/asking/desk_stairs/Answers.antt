@@ -1,6 +1,8 @@
 -- `face::asking::desk_stairs` meets its contract.
-use mathlib.Core.Path.{refl, ◌∙◌}
+use mathlib.Core.Path.{refl, sym, ap, ◌∙◌}
+use Rattle.std.specs.Result.{result_unwrap_or}
 use Rattle.meaning.specs.Calls.{ask_stairs}
+use Rattle.table.proofs.Rows.{table_none}
 use Rattle.desk.specs.Desks.{held}
 use Rattle.face.specs.Told.{numbered_stairs}
 use Rattle.face.proofs.Given.{given}
@@ -12,5 +14,10 @@ stairs-requires c = c.requires
 pub returns : goal.returns
 returns c =
     let d = c.args.d in
-    let told = ? in
-    (told ∙ given numbered_stairs d c.requires (ask_stairs (held d)) _ _ c.stairs.ensures.0 refl, c.requires)
+    let rows = c.unwrap_or-found.ensures ∙ ap (result_unwrap_or c.stairs.result.answer) (sym table_none) in
+    let number = c.number_of_answer.ensures in
+    (
+      (λ i. record { number = number i; count = (rows i).n; far = (rows i).far; tot = (rows i).tot; desk = d })
+          ∙ given numbered_stairs d c.requires (ask_stairs (held d)) _ _ c.stairs.ensures.0 refl,
+      c.requires,
+    )

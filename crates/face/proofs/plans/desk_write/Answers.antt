@@ -1,12 +1,21 @@
 -- `face::plans::desk_write` meets its contract.
-use Rattle.face.proofs.Given.{write_told}
+use mathlib.Core.Path.{refl, ap, ◌∙◌}
+use Rattle.meaning.specs.Bytes.{write_plan, written}
+use Rattle.desk.specs.Desks.{held}
+use Rattle.face.specs.Told.{numbered_write}
+use Rattle.face.proofs.Given.{given, counted}
 use Rattle.face.proofs.plans.desk_write.Goals as goal
 
-pub write-reply-requires : goal.write-reply-requires
-write-reply-requires c = c.requires
+pub write-requires : goal.write-requires
+write-requires c = c.requires
 
 pub returns : goal.returns
 returns c =
-    let (same, room, fit) = c.write-reply.ensures in
-    let (told, kept) = write_told _ c.requires _ _ _ same c.told_write.ensures in
-    (told, room, kept)
+    let d = c.args.d in
+    let (same, room, fit) = c.write.ensures in
+    (
+      rw (c.number_of_answer.ensures, c.unwrap_or.ensures, counted c.write.result.answer)
+          (given numbered_write d c.requires (written (write_plan c.args.room.now (held d))) _ _ same refl),
+      room,
+      c.requires,
+    )
