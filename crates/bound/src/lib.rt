@@ -47,11 +47,14 @@ pub fn response_bound(
         (lower_wire rate own (without leave streams.now)) (without leave streams.now) own) }
 {
     let a = unpack(rate, streams, own, leave);
+    let per = a.per;
+    let jit = a.jit;
+    let cost = a.cost;
     let rows = Rows {
         n: a.n,
-        per: a.per,
-        jit: a.jit,
-        cost: a.cost,
+        per,
+        jit,
+        cost,
     };
     let own = Own {
         lower: a.lower,
