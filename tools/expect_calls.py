@@ -1,7 +1,7 @@
 #!/usr/bin/env python3
 """Makes the calls of the program `calls` and what document 01 answers to each, worked out from the paper alone.
 
-    tools/expect_calls.py table  > the numbers of crates/calls/src/script.rt
+    tools/expect_calls.py table  > crates/calls/src/script.rt, which rt fmt then lays out
     tools/expect_calls.py answers > crates/calls/stdout
 
 A desk is a dict or None (bare). Everything is done the slow, plain way: cells one by one, all pairs, least numbers by search.
@@ -219,14 +219,24 @@ def rows():
     return out
 
 
+def written(op, a):
+    """A call as crates/calls writes it."""
+    named = lambda kind, names: kind + " { " + ", ".join(f"{n}: {x}" for n, x in zip(names, a)) + " }"
+    some = lambda n: "(" + ", ".join(str(x) for x in a[:n]) + ")"
+    return ["Bare", "OpenPort(" + named("PortNumbers", ["rate", "cycle", "guard", "header"]) + ")",
+            "AddSlot" + some(2), "RemoveSlot" + some(1),
+            "AddStream(" + named("StreamNumbers", ["id", "priority", "octets", "period", "jitter", "deadline"]) + ")",
+            "RemoveStream" + some(1), "Runs", "Stairs", "Interference" + some(1), "Response" + some(1)][op]
+
+
 def main():
     table = rows()
     if sys.argv[1:] == ["table"]:
-        print(f"// {len(table)} calls, each its kind and six numbers; made by tools/expect_calls.py.")
-        print(f"pub const CALLS: usize = {len(table)};\n")
-        print(f"pub const NUMBERS: [u64; {7 * len(table)}] = [")
+        print(f"// {len(table)} calls; made by tools/expect_calls.py.")
+        print("use crate::call::Call;\nuse ranges::{PortNumbers, StreamNumbers};\n")
+        print(f"pub const CALLS: [Call; {len(table)}] = [")
         for op, a in table:
-            print("    " + ", ".join(str(x) for x in [op] + a) + ",")
+            print(f"    Call::{written(op, a)},")
         print("];")
         return
     d = None

@@ -12,7 +12,7 @@ const OCTET_LIMIT: u32 = 1_522;
 
 impl Entries {
     // A port must be open.
-    pub fn in_turn(&self) -> Result<(), Refusal>
+    pub(crate) fn in_turn(&self) -> Result<(), Refusal>
         ensures { MatchResult result (λ _. self.now.opened ≡ true)
             (λ why. (self.now.opened ≡ false) × (why ≡ OutOfTurn)) }
     {
@@ -32,7 +32,7 @@ impl Entries {
     }
 
     // The streams held.
-    pub fn held_streams(&self) -> &[Stream]
+    pub(crate) fn held_streams(&self) -> &[Stream]
         requires { self.now.nstreams ≤ 64 }
         ensures { result.now ≡ streams_in self.now }
     {
@@ -53,7 +53,7 @@ impl Entries {
 
     // The octets of a frame, at most, by the port.
     #[tactic(auto, unfolding(meaning::specs::Ranges::octet_limit))]
-    pub fn octet_limit(&self) -> u32
+    pub(crate) fn octet_limit(&self) -> u32
         ensures { result ≡ octet_limit (port_in self.now) }
     {
         OCTET_LIMIT

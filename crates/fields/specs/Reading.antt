@@ -22,9 +22,12 @@ value_at n octets =
     (cond (ltb (length octets) (3 + n)) (Err CutShort) (Ok tt))
     (Err WrongLength)
 
--- the answer that has this case
+-- the field of document 01 that a case is, and the answer that a result is
+abbrev pub as_told : Field → Told
+as_told (case.Port p) = port_field p
+as_told (case.Slot s) = slot_field s
+as_told (case.Stream j) = stream_field j
+
 abbrev pub told : Result Field Refusal → Answer Told
-told (Ok (case.Port p)) = accepted (port_field p)
-told (Ok (case.Slot s)) = accepted (slot_field s)
-told (Ok (case.Stream j)) = accepted (stream_field j)
+told (Ok f) = accepted (as_told f)
 told (Err r) = refused r

@@ -1,21 +1,19 @@
 -- Rows that hold one more or one less: a part of the row is turned by one place, and one place is stored.
 -- Assumes nothing.
 use mathlib.Core.Path.{◌≡◌, refl, sym, ap, ◌∙◌}
-use mathlib.Core.Bool.{Bool, true, false, cond, ◌||◌, true≢false}
-use mathlib.Core.List.{List, [], ◌∷◌, ◌++◌, append-nil, append_assoc}
-use Prim.Native.Nat.{ℕ, zero, suc, ◌+◌, ◌-◌, ◌≤◌, ◌<◌, zero-le}
-use native.Mathlib.Numerals.{add-one, sub-one}
-use native.Mathlib.Nat.{le_refl, zero-add, sub-zero, zero-sub, suc-sub-suc}
+use mathlib.Core.Bool.{Bool, true, false, cond}
+use mathlib.Core.List.{List, [], ◌∷◌, ◌++◌, append_assoc}
+use Prim.Native.Nat.{ℕ, zero, suc, ◌+◌, ◌-◌, ◌≤◌, ◌<◌}
+use native.Mathlib.Nat.{le_refl, sub-zero, zero-sub, suc-sub-suc}
 use native.Mathlib.Omega.{arith}
-use lib.ListN.{length, get_or, take, drop, set, replicate, length-append, length-take, length-drop, take-append-drop}
-use lib.ListN.{drop_of_length-le, get_or-append}
-use lib.Seq.{length-take-le, take-suc, split_at, drop-cons, take-append-le, drop-append-le, drop-append-add}
+use lib.ListN.{length, get_or, take, drop, set, replicate, length-append, length-take, length-drop}
+use lib.Seq.{length-take-le, take-suc, drop-cons, drop-append-add}
 use lib.Seq.{take-take}
 use lib.Seq.{set_at, take_at, drop_at, drop-drop}
 use lib.Dec.{ltb}
 use borrow.Rule.Slice.PartMut.{put_mid, mid_of}
 use Rattle.std.proofs.lemmas.Slice.{between_is}
-use Rattle.laws.specs.Lists.{any, insert_by, place_by, without, filled}
+use Rattle.laws.specs.Lists.{insert_by, place_by, without, filled}
 use Rattle.laws.proofs.Inserting.{length_insert_by}
 use Rattle.laws.proofs.Rows.{filled_length}
 
@@ -42,14 +40,14 @@ module _ {A : Type 0} where
   free_rest size z l n k row h =
       ap (drop k) row ∙ filled_rest size z (take n l) k (omega (arith, length-take n l))
 
-  pub filled_long : (size : ℕ) (z : A) (l : List A) (n : ℕ) → l ≡ filled size z (take n l) → n ≤ size → length l ≡ size
+  filled_long : (size : ℕ) (z : A) (l : List A) (n : ℕ) → l ≡ filled size z (take n l) → n ≤ size → length l ≡ size
   filled_long size z l n row h =
       ap length row ∙ filled_length size z (take n l) (omega (arith, length-take n l))
 
   -- ---- one more: from place n down to place p, what stands before place i goes to place i
 
   -- one by rising key goes before the first with a larger key
-  pub insert_at_place : (key : A → ℕ) (a : A) (xs : List A) (p : ℕ) → p ≡ place_by (λ x. ltb (key a) (key x)) xs
+  insert_at_place : (key : A → ℕ) (a : A) (xs : List A) (p : ℕ) → p ≡ place_by (λ x. ltb (key a) (key x)) xs
       → insert_by key a xs ≡ take p xs ++ a ∷ drop p xs
   unfolding insert_by place_by
   insert_at_place key a xs p e = rw e (go xs)
@@ -88,7 +86,8 @@ module _ {A : Type 0} where
       let turned : ys ≡ d ∷ f =
       e ∙ rw part (rw (last, drop_at f (d ∷ []) (n - p) few, take_at f (d ∷ []) (n - p) few)) in
       let to : p + (n + 1 - p) ≡ suc n = omega arith in
-      let rest : drop (n + 1 - p) (drop p l) ≡ drop (suc n) l = drop-drop (n + 1 - p) p l ∙ ap (λ (j : ℕ). drop j l) to in
+      let rest : drop (n + 1 - p) (drop p l) ≡ drop (suc n) l =
+      drop-drop (n + 1 - p) p l ∙ ap (λ (j : ℕ). drop j l) to in
       rw (turned, rest) (set_at (take p l) d (f ++ drop (suc n) l) a p (length-take-le p l (omega arith)))
 
   -- one more among those that a row holds, by rising key

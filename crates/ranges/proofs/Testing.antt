@@ -21,6 +21,7 @@ module _ {A : Type 0} (tests : List Bool) (a : A) where
       → (in_range tests ≡ false) × (why ≡ OutOfRange)
   refused_out_of_range why = go (in_range tests)
     where
-      go : (b : Bool) → ◌≡◌ {A = Result A Refusal} (Err why) (cond b (Ok a) (Err OutOfRange)) → (b ≡ false) × (why ≡ OutOfRange)
+      go : (b : Bool) → ◌≡◌ {A = Result A Refusal} (Err why) (cond b (Ok a) (Err OutOfRange))
+          → (b ≡ false) × (why ≡ OutOfRange)
       go true e = cc
       go false e = (refl, cc)

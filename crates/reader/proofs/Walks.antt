@@ -6,150 +6,141 @@ use Prim.Native.Nat.{ℕ, suc, ◌+◌, ◌≤◌, ◌<◌}
 use native.Mathlib.Omega.{arith}
 use lib.ListN.{length, drop, length-drop, drop_of_length-le}
 use lib.Seq.{drop-drop}
+use Rattle.std.specs.Prelude.{Result, Ok, Err}
 use Rattle.meaning.specs.declared.Refusal.{Refusal}
 use Rattle.meaning.specs.Refusals.{Answer, accepted, refused}
 use Rattle.meaning.specs.Desks.{bare, edited}
 use Rattle.meaning.specs.Desks.{Desk as Plan}
-use Rattle.meaning.specs.Bytes.{Field, port_field, slot_field, stream_field, tag_of, value_length, field_length}
+use Rattle.meaning.specs.Bytes.{Field, tag_of, value_length, field_length}
 use Rattle.meaning.specs.Bytes.{front, edit}
 use Rattle.meaning.specs.Bytes.{Reading, going, stopped, after_edit, after_front, step, walk}
 use Rattle.meaning.specs.Bytes.{ended, read_plan, refused_at}
 use Rattle.meaning.proofs.Fields.{front_takes}
 use Rattle.meaning.proofs.Readings.{walk_stopped, walk_done, step_some, walk_enough}
 use Rattle.entries.specs.declared.Entries.{Entries}
-use Rattle.answers.specs.declared.Verdict.{Verdict}
-use Rattle.answers.specs.declared.Verdict.TheVariants.{Accepted, Refused}
-use Rattle.entries.specs.declared.EntriesReply.{EntriesReply}
-use Rattle.entries.specs.Entries.{held_in, entries_reply}
+use Rattle.entries.specs.Entries.{held_in, entries_of, FitEntries, Edits}
 use Rattle.entries.proofs.Opened.{held_of_entries}
-use Rattle.fields.specs.declared.FieldAt.{FieldAt}
-use Rattle.reader.specs.declared.Walked.{Walked}
-use Rattle.fields.specs.Reading.{field_at, told}
-use Rattle.reader.specs.Reading.{octets_at, edit_told, walked_to}
+use Rattle.fields.specs.declared.Field.{Field as Read}
+use Rattle.fields.specs.declared.Field.TheVariants as case
+use Rattle.fields.specs.Reading.{field_at, as_told}
 use Rattle.fields.proofs.Fronts.{field_told}
+use Rattle.reader.specs.declared.RefusedAt.{RefusedAt}
+use Rattle.reader.specs.Reading.{octets_at, walked_to, walked_with, Walks, read_answer}
 
 -- ---- one step
 
 -- the octets of a field that is read
-octets_of_lem : (f : Field) → octets_at (field_at (accepted f)) ≡ field_length f
-unfolding octets_at field_at field_length value_length tag_of
-octets_of_lem (port_field p) = refl
-octets_of_lem (slot_field s) = refl
-octets_of_lem (stream_field j) = refl
+octets_of_lem : (f : Read) → octets_at f ≡ field_length (as_told f)
+unfolding octets_at field_length value_length tag_of
+octets_of_lem (case.Port p) = refl
+octets_of_lem (case.Slot s) = refl
+octets_of_lem (case.Stream j) = refl
 
--- an accepted answer is not a refused one
-told_apart : {v : Verdict} {r : Refusal} → v ≡ Accepted → v ≡ Refused r → ⊥
-told_apart a b = let z : ◌≡◌ {A = ℕ} 0 1 = cc in omega arith
+-- what the step at a place is
+seen : (at : ℕ) (plan : List ℕ) (es : Entries) → at < length plan
+    → step (going at (drop at plan) (held_in es)) ≡ after_front at (drop at plan) (held_in es) (front (drop at plan))
+seen at plan es h = step_some at (drop at plan) (held_in es) (omega (arith, length-drop at plan))
 
--- a field walked
-abbrev pub walked_by : Verdict → ℕ → Entries → Walked
-walked_by v at es = record { verdict = v; at = at; entries = es }
+module _ (plan : List ℕ) (at : ℕ) (es : Entries) (h : at < length plan) (f : FitEntries es) where
+  -- what the step is, by the field at the place
+  looked : (a : Answer Field) → front (drop at plan) ≡ a
+      → step (going at (drop at plan) (held_in es)) ≡ after_front at (drop at plan) (held_in es) a
+  looked a e =
+      seen at plan es h ∙ ap (after_front at (drop at plan) (held_in es)) e
 
-module _ (plan : List ℕ) (at : ℕ) (f : FieldAt) (e : f ≡ field_at (front (drop at plan))) where
-  -- they lie within the plan
-  pub octets_within : at ≤ length plan → at + octets_at f ≤ length plan
-  unfolding field_at octets_at
-  octets_within h = rw e (go (front (drop at plan)) refl)
-    where
-      go : (a : Answer Field) → front (drop at plan) ≡ a → at + octets_at (field_at a) ≤ length plan
-      go (accepted g) q =
-          omega (arith, octets_of_lem g, front_takes (drop at plan) g q, length-drop at plan)
-      go (refused r) q = omega arith
+  Step : Result ℕ RefusedAt → Entries → Type 0
+  Step r made = Walks (held_in es) (step (going at (drop at plan) (held_in es))) r made
 
-  -- ---- the edit that it names, made on es
+  -- no field that can be read
+  pub walks_unread : (why : Refusal) → Err why ≡ field_at (front (drop at plan))
+      → Walks (held_in es) (step (going at (drop at plan) (held_in es))) (Err (record { why = why; place = at })) es
+  unfolding after_front walked_to walked_with
+  walks_unread why e =
+      rw (looked (refused why) (field_told (Err why) (front (drop at plan)) e))
+      (record { answer = refl; entries = f.canonical; fit = f })
 
-  module _ (h : at < length plan) (es : Entries) (m : EntriesReply)
-      (k : m ≡ entries_reply (edited (held_in es) (edit_told (told f) (held_in es)))) where
-    stepped : step (going at (drop at plan) (held_in es)) ≡ after_front at (drop at plan) (held_in es) (told f)
-    stepped =
-        step_some at (drop at plan) (held_in es) (omega (arith, length-drop at plan))
-        ∙ ap (after_front at (drop at plan) (held_in es)) (field_told f (front (drop at plan)) e)
+  module _ (g : Read) (e : Ok g ≡ field_at (front (drop at plan))) where
+    here : front (drop at plan) ≡ accepted (as_told g)
+    here = field_told (Ok g) (front (drop at plan)) e
 
-    length_told : (g : Field) → told f ≡ accepted g → octets_at f ≡ field_length g
-    length_told g q =
-        ap octets_at (e ∙ ap field_at (field_told f (front (drop at plan)) e ∙ q)) ∙ octets_of_lem g
+    -- its octets lie within the plan
+    pub octets_within : at + octets_at g ≤ length plan
+    octets_within =
+        omega (arith, octets_of_lem g, front_takes (drop at plan) (as_told g) here, length-drop at plan)
 
-    pub walked_accepted : m.verdict ≡ Accepted
-        → walked_by Accepted (at + octets_at f) m.entries ≡ walked_to (held_in es)
-        (step (going at (drop at plan) (held_in es)))
-    unfolding walked_to after_front after_edit edited
-    walked_accepted v = by_told (told f) refl k ∙ sym (ap (walked_to (held_in es)) stepped)
+    -- its edit is refused
+    pub walks_refused : (why : Refusal) (made : Entries)
+        → Edits es (edit (as_told g) (held_in es)) (Err why) made
+        → Walks (held_in es) (step (going at (drop at plan) (held_in es))) (Err (record { why = why; place = at })) made
+    unfolding after_front after_edit edited walked_to walked_with
+    walks_refused why made m = rw (looked (accepted (as_told g)) here) (go (edit (as_told g) (held_in es)) m)
       where
-        by_edit : (g : Field) → octets_at f ≡ field_length g → (a : Answer Plan) → m
-            ≡ entries_reply (edited (held_in es) a)
-            → walked_by Accepted (at + octets_at f) m.entries
-            ≡ walked_to (held_in es) (after_edit at (drop at plan) g a)
-        by_edit g l (accepted x) q = λ i. walked_by Accepted (at + l i) (q i).entries
-        by_edit g l (refused r) q = let z = ap (λ (x : EntriesReply). x.verdict) q in cc
+        go : (a : Answer Plan) → Edits es a (Err why) made
+            → Walks (held_in es) (after_edit at (drop at plan) (as_told g) a) (Err (record { why = why; place = at })) made
+        go (accepted x) m = let z = m.answer in cc
+        go (refused r) m =
+            let q = m.answer in record { answer = cc; entries = m.entries; fit = m.fit }
 
-        by_told : (a : Answer Field) → told f ≡ a → m ≡ entries_reply (edited (held_in es) (edit_told a (held_in es)))
-            → walked_by Accepted (at + octets_at f) m.entries
-            ≡ walked_to (held_in es) (after_front at (drop at plan) (held_in es) a)
-        by_told (accepted g) t q = by_edit g (length_told g t) (edit g (held_in es)) q
-        by_told (refused r) t q = let z = ap (λ (x : EntriesReply). x.verdict) q in cc
-
-    pub walked_refused : (why : Refusal) → m.verdict ≡ Refused why
-        → walked_by (Refused why) at m.entries ≡ walked_to (held_in es) (step (going at (drop at plan) (held_in es)))
-    unfolding walked_to after_front after_edit edited
-    walked_refused why v = by_told (told f) k ∙ sym (ap (walked_to (held_in es)) stepped)
+    -- its edit is accepted
+    pub walks_accepted : (made : Entries) → Edits es (edit (as_told g) (held_in es)) (Ok tt) made
+        → Walks (held_in es) (step (going at (drop at plan) (held_in es))) (Ok (at + octets_at g)) made
+    unfolding after_front after_edit edited walked_to walked_with
+    walks_accepted made m = rw (looked (accepted (as_told g)) here) (go (edit (as_told g) (held_in es)) m)
       where
-        by_edit : (g : Field) (a : Answer Plan) → m ≡ entries_reply (edited (held_in es) a)
-            → walked_by (Refused why) at m.entries ≡ walked_to (held_in es) (after_edit at (drop at plan) g a)
-        by_edit g (accepted x) q = let z = ap (λ (x : EntriesReply). x.verdict) q in cc
-        by_edit g (refused r) q = λ i. walked_by ((sym v ∙ ap (λ (x : EntriesReply). x.verdict) q) i) at (q i).entries
-
-        by_told : (a : Answer Field) → m ≡ entries_reply (edited (held_in es) (edit_told a (held_in es)))
-            → walked_by (Refused why) at m.entries ≡ walked_to (held_in es)
-            (after_front at (drop at plan) (held_in es) a)
-        by_told (accepted g) q = by_edit g (edit g (held_in es)) q
-        by_told (refused r) q = λ i. walked_by ((sym v ∙ ap (λ (x : EntriesReply). x.verdict) q) i) at (q i).entries
+        go : (a : Answer Plan) → Edits es a (Ok tt) made
+            → Walks (held_in es) (after_edit at (drop at plan) (as_told g) a) (Ok (at + octets_at g)) made
+        go (accepted x) m =
+            record { answer = ap (λ (n : ℕ). Ok (at + n)) (octets_of_lem g); entries = m.entries; fit = m.fit }
+        go (refused r) m = let z = m.answer in cc
 
 -- ---- the walk from a place
 
-module _ (plan : List ℕ) (at : ℕ) (es : Entries) (w : Walked) (h : at < length plan)
-    (k : w ≡ walked_to (held_in es) (step (going at (drop at plan) (held_in es)))) where
-  looked : step (going at (drop at plan) (held_in es))
-      ≡ after_front at (drop at plan) (held_in es) (front (drop at plan))
-  looked = step_some at (drop at plan) (held_in es) (omega (arith, length-drop at plan))
-
-  -- a field that is accepted: the walk goes on behind it
-  pub went_on : w.verdict ≡ Accepted
-      → (at < w.at) × (step (going at (drop at plan) (held_in es)) ≡ going w.at (drop w.at plan) (held_in w.entries))
-  unfolding walked_to after_front after_edit field_length
-  went_on v = rw looked (by_front (front (drop at plan)) (k ∙ ap (walked_to (held_in es)) looked))
+module _ (plan : List ℕ) (at : ℕ) (es made : Entries) (h : at < length plan) where
+  -- a step that answers a place: the walk goes on there
+  pub went_on : (on : ℕ) → Walks (held_in es) (step (going at (drop at plan) (held_in es))) (Ok on) made
+      → (at < on) × (step (going at (drop at plan) (held_in es)) ≡ going on (drop on plan) (held_in made))
+  unfolding walked_to walked_with after_front after_edit field_length
+  went_on on w =
+      rw (seen at plan es h)
+      (by_front (front (drop at plan)) (rw (seen at plan es h) at w.answer) (rw (seen at plan es h) at w.entries))
     where
       Goes : Reading → Type 0
-      Goes s = (at < w.at) × (s ≡ going w.at (drop w.at plan) (held_in w.entries))
+      Goes s = (at < on) × (s ≡ going on (drop on plan) (held_in made))
 
-      by_edit : (g : Field) (a : Answer Plan) → w ≡ walked_to (held_in es) (after_edit at (drop at plan) g a)
+      by_edit : (g : Field) (a : Answer Plan) → Ok on ≡ walked_to (after_edit at (drop at plan) g a)
+          → made ≡ entries_of (walked_with (held_in es) (after_edit at (drop at plan) g a))
           → Goes (after_edit at (drop at plan) g a)
-      by_edit g (accepted x) q =
-          let place : w.at ≡ at + field_length g = ap (λ (x : Walked). x.at) q in
-          let desk : held_in w.entries ≡ x = ap (λ (x : Walked). held_in x.entries) q ∙ held_of_entries x in
+      by_edit g (accepted x) q k =
+          let place : on ≡ at + field_length g = cc in
+          let desk : held_in made ≡ x = ap held_in k ∙ held_of_entries x in
           (omega arith, rw (place, desk, drop-drop (field_length g) at plan))
-      by_edit g (refused r) q = absurd (told_apart v (ap (λ (x : Walked). x.verdict) q))
+      by_edit g (refused r) q k = cc
 
-      by_front : (a : Answer Field) → w ≡ walked_to (held_in es) (after_front at (drop at plan) (held_in es) a)
+      by_front : (a : Answer Field) → Ok on ≡ walked_to (after_front at (drop at plan) (held_in es) a)
+          → made ≡ entries_of (walked_with (held_in es) (after_front at (drop at plan) (held_in es) a))
           → Goes (after_front at (drop at plan) (held_in es) a)
-      by_front (accepted g) q = by_edit g (edit g (held_in es)) q
-      by_front (refused r) q = absurd (told_apart v (ap (λ (x : Walked). x.verdict) q))
+      by_front (accepted g) q k = by_edit g (edit g (held_in es)) q k
+      by_front (refused r) q k = cc
 
-  -- a field that is refused: the walk stops at it
-  pub went_no_further : (why : Refusal) → w.verdict ≡ Refused why
-      → (w.at ≡ at) × (step (going at (drop at plan) (held_in es)) ≡ stopped why at)
+  -- a step that is refused: the walk stops, at this place
+  pub went_no_further : (x : RefusedAt) → Walks (held_in es) (step (going at (drop at plan) (held_in es))) (Err x) made
+      → (step (going at (drop at plan) (held_in es)) ≡ stopped x.why at) × (x.place ≡ at)
   unfolding walked_to after_front after_edit
-  went_no_further why v = rw looked (by_front (front (drop at plan)) (k ∙ ap (walked_to (held_in es)) looked))
+  went_no_further x w =
+      rw (seen at plan es h) (by_front (front (drop at plan)) (rw (seen at plan es h) at w.answer))
     where
-      stops : (r : Refusal) → w ≡ walked_to (held_in es) (stopped r at) → (w.at ≡ at) × (stopped r at ≡ stopped why at)
-      stops r q = let z = ap (λ (x : Walked). x.verdict) q in (ap (λ (x : Walked). x.at) q, cc)
+      stops : (r : Refusal) → Err x ≡ walked_to (stopped r at) → (stopped r at ≡ stopped x.why at) × (x.place ≡ at)
+      stops r q =
+          let e : x ≡ record { why = r; place = at } = cc in
+          (ap (λ (x : RefusedAt). stopped x.why at) (sym e), ap (λ (x : RefusedAt). x.place) e)
 
-      by_edit : (g : Field) (a : Answer Plan) → w ≡ walked_to (held_in es) (after_edit at (drop at plan) g a)
-          → (w.at ≡ at) × (after_edit at (drop at plan) g a ≡ stopped why at)
-      by_edit g (accepted x) q = let z = ap (λ (x : Walked). x.verdict) q in (cc, cc)
+      by_edit : (g : Field) (a : Answer Plan) → Err x ≡ walked_to (after_edit at (drop at plan) g a)
+          → (after_edit at (drop at plan) g a ≡ stopped x.why at) × (x.place ≡ at)
+      by_edit g (accepted y) q = (cc, cc)
       by_edit g (refused r) q = stops r q
 
-      by_front : (a : Answer Field) → w ≡ walked_to (held_in es) (after_front at (drop at plan) (held_in es) a)
-          → (w.at ≡ at) × (after_front at (drop at plan) (held_in es) a ≡ stopped why at)
+      by_front : (a : Answer Field) → Err x ≡ walked_to (after_front at (drop at plan) (held_in es) a)
+          → (after_front at (drop at plan) (held_in es) a ≡ stopped x.why at) × (x.place ≡ at)
       by_front (accepted g) q = by_edit g (edit g (held_in es)) q
       by_front (refused r) q = stops r q
 
@@ -177,9 +168,15 @@ module _ (plan : List ℕ) (at : ℕ) (e : Plan) (reads : ReadsOn plan at e) whe
   pub read_turn : (on : ℕ) (x : Plan) → step (going at (drop at plan) e) ≡ going on (drop on plan) x → ReadsOn plan on x
   read_turn on x q = read_step _ q
 
-  pub read_stops : (r : Refusal) → step (going at (drop at plan) e) ≡ stopped r at → read_plan plan ≡ refused_at r at
+  read_stops : (r : Refusal) → step (going at (drop at plan) e) ≡ stopped r at → read_plan plan ≡ refused_at r at
   unfolding ended
   read_stops r q = read_step _ q ∙ ap ended (walk_stopped (length plan) r at)
+
+  -- the refusal x is what reading the plan answers
+  pub read_refused : (x : RefusedAt) → step (going at (drop at plan) e) ≡ stopped x.why at → x.place ≡ at
+      → Err x ≡ read_answer (read_plan plan)
+  read_refused x q place =
+      ap (λ (n : ℕ). Err (record { why = x.why; place = n })) place ∙ sym (ap read_answer (read_stops x.why q))
 
   pub read_ends : length plan ≤ at → read_plan plan ≡ ended (going at [] e)
   read_ends l =

@@ -2,164 +2,116 @@
 // names").
 #![tactic(auto)]
 
-ghost use Rattle.std.specs.Prelude.{◌≡◌, [], ◌+◌, ◌≤◌, ◌<◌, length, drop};
-ghost use Rattle.meaning.specs.Desks.{edited};
-ghost use Rattle.meaning.specs.Bytes.{going, step, ended, refused_at, read_plan};
-ghost use Rattle.ranges.specs.Numbers.{port_of, stream_of};
-ghost use Rattle.entries.specs.Entries.{held_in, FitEntries, entries_reply};
+ghost use Rattle.std.specs.Prelude.{◌≡◌, true, ◌≤◌, ◌<◌, length, drop, IfOk, OnOk};
+ghost use Rattle.meaning.specs.Desks.{bare};
+ghost use Rattle.meaning.specs.Bytes.{edit, going, step, read, read_plan};
+ghost use Rattle.entries.specs.Entries.{held_in, FitEntries, Edits};
 ghost use Rattle.desk.specs.Desks.{Fit};
-ghost use Rattle.fields.specs.Reading.{told};
-ghost use Rattle.reader.specs.Reading.{octets_at, edit_told, walked_to, read_reply};
+ghost use Rattle.fields.specs.Reading.{as_told};
+ghost use Rattle.reader.specs.Reading.{octets_at, at_place, Walks, read_answer, read_reply};
 
-use answers::Verdict;
 use desk::Desk;
-use entries::{Entries, EntriesReply};
-use fields::FieldAt;
-use meaning::{Port, Refusal, Stream};
+use entries::Entries;
+use fields::Field;
+use meaning::Refusal;
 use ranges::{PortNumbers, StreamNumbers};
 
-// What reading a plan answers: its place, on a refusal, is that of the field's first octet.
+// Why a plan is refused, and the place of the field's first octet.
 #[derive(Clone, Copy)]
-pub enum ReadAnswer {
-    Read,
-    Refused { why: Refusal, place: usize },
+pub struct RefusedAt {
+    pub why: Refusal,
+    pub place: usize,
 }
 
-// The bare desk on a refusal.
+// What reading a plan answers, and its desk: the bare one on a refusal.
 #[derive(Clone, Copy)]
 pub struct ReadReply {
-    pub answer: ReadAnswer,
+    pub answer: Result<(), RefusedAt>,
     pub desk: Desk,
 }
 
-// One field walked: the place behind it and what its edit made; or why it is refused, its place and the entries as they
-// were.
-#[derive(Clone, Copy)]
-pub struct Walked {
-    pub verdict: Verdict,
-    pub at: usize,
-    pub entries: Entries,
-}
-
-// The octets of a field, its tag and length included; 0 where it is refused.
-fn octets_at(f: FieldAt) -> usize
+// The octets of a field, its tag and length included.
+#[tactic(auto, unfolding(crate::specs::Reading::octets_at))]
+fn octets_at(f: Field) -> usize
     ensures { result ≡ octets_at f }
 {
     match f {
-        FieldAt::Port(p) => 16,
-        FieldAt::Slot(s) => 11,
-        FieldAt::Stream(j) => 20,
-        FieldAt::Refused(why) => 0,
+        Field::Port(_) => 16,
+        Field::Slot(_) => 11,
+        Field::Stream(_) => 20,
     }
 }
 
-// The numbers of a PORT field, as a call takes them.
-fn port_numbers(p: Port) -> PortNumbers
-    ensures { port_of result ≡ p }
-{
-    PortNumbers {
-        rate: p.rate as u64,
-        cycle: p.cycle as u64,
-        guard: p.guard as u64,
-        header: p.header as u64,
-    }
-}
-
-// The numbers of a STREAM field, as a call takes them.
-fn stream_numbers(j: Stream) -> StreamNumbers
-    ensures { stream_of result ≡ j }
-{
-    StreamNumbers {
-        id: j.id as u64,
-        priority: j.priority as u64,
-        octets: j.octets as u64,
-        period: j.period as u64,
-        jitter: j.jitter as u64,
-        deadline: j.deadline as u64,
-    }
-}
-
-// The edit that a field names; a refused field is a refused edit.
-fn edit(e: Entries, f: FieldAt) -> EntriesReply
-    requires { FitEntries e }
-    ensures { (result ≡ entries_reply (edited (held_in e) (edit_told (told f) (held_in e))))
-        × FitEntries result.entries }
+// The edit that a field names.
+#[tactic(auto, unfolding(meaning::specs::Bytes::edit))]
+fn edit(e: &mut Entries, f: Field) -> Result<(), Refusal>
+    requires { FitEntries e.old }
+    ensures { Edits e.old (edit (as_told f) (held_in e.old)) result e.new }
 {
     match f {
-        FieldAt::Port(p) => entries::hold_port(e, port_numbers(p)),
-        FieldAt::Slot(s) => entries::hold_slot(e, s.start as u64, s.end as u64),
-        FieldAt::Stream(j) => entries::hold_stream(e, stream_numbers(j)),
-        FieldAt::Refused(why) => EntriesReply {
-            verdict: Verdict::Refused(why),
-            entries: e,
-        },
+        Field::Port(p) => e.hold_port(PortNumbers::from(p)),
+        Field::Slot(s) => e.hold_slot(s.start.into(), s.end.into()),
+        Field::Stream(j) => e.hold_stream(StreamNumbers::from(j)),
     }
 }
 
-// One step of the walk, from any place and entries: the field at the place is read and its edit made.
-pub fn walk_on(plan: &[u8], at: usize, e: Entries) -> Walked
-    requires { (at < length plan.now) × FitEntries e }
-    ensures { (result ≡ walked_to (held_in e) (step (going at (drop at plan.now) (held_in e))))
-        × (result.at ≤ length plan.now) × FitEntries result.entries }
+// The field at the place read and its edit made: the place behind it.
+fn edit_at(plan: &[u8], at: usize, e: &mut Entries) -> Result<usize, Refusal>
+    requires { (at < length plan.now) × FitEntries e.old }
+    ensures { Walks (held_in e.old) (step (going at (drop at plan.now) (held_in e.old))) (at_place at result) e.new
+        × IfOk result (λ on. on ≤ length plan.now) }
 {
-    let f = fields::step(plan, at);
-    let behind = at + octets_at(f);
-    let made = edit(e, f);
-    let verdict = made.verdict;
-    let entries = made.entries;
-    match verdict {
-        Verdict::Accepted => Walked {
-            verdict: Verdict::Accepted,
-            at: behind,
-            entries,
-        },
-        Verdict::Refused(why) => Walked {
-            verdict: Verdict::Refused(why),
-            at,
-            entries,
-        },
+    let f = fields::step(plan, at)?;
+    edit(e, f)?;
+    Ok(at + octets_at(f))
+}
+
+// One step of the walk, from any place and entries: a refused field leaves the entries as they were.
+pub fn walk_on(plan: &[u8], at: usize, e: &mut Entries) -> Result<usize, RefusedAt>
+    requires { (at < length plan.now) × FitEntries e.old }
+    ensures { Walks (held_in e.old) (step (going at (drop at plan.now) (held_in e.old))) result e.new
+        × IfOk result (λ on. on ≤ length plan.now) }
+{
+    match edit_at(plan, at, e) {
+        Ok(on) => Ok(on),
+        Err(why) => Err(RefusedAt { why, place: at }),
     }
 }
 
-// A plan refused at a place, and the bare desk that goes with it.
-fn refused_at(why: Refusal, place: usize) -> ReadReply
-    ensures { (result ≡ read_reply (refused_at why place)) × Fit result.desk }
+// The edits of a whole plan, made on what holds nothing yet. Without a field the plan is refused.
+fn walk(plan: &[u8], e: &mut Entries) -> Result<(), RefusedAt>
+    requires { FitEntries e.old × (held_in e.old ≡ bare) }
+    ensures { (result ≡ read_answer (read_plan plan.now))
+        × OnOk result ((e.new.opened ≡ true) × (read_plan plan.now ≡ read (held_in e.new)))
+        × FitEntries e.new }
 {
-    let none = desk::bare();
-    ReadReply {
-        answer: ReadAnswer::Refused { why, place },
-        desk: none,
+    let mut at: usize = 0;
+    while at < plan.len() {
+        at = walk_on(plan, at, e)?;
     }
-}
-
-// A plan at its end: the stairs are built once, for the slots then held. Without a field it is refused.
-fn finish(e: Entries, at: usize) -> ReadReply
-    requires { FitEntries e }
-    ensures { (result ≡ read_reply (ended (going at [] (held_in e)))) × Fit result.desk }
-{
     if !e.opened {
-        return refused_at(Refusal::OutOfTurn, 0);
+        return Err(RefusedAt {
+            why: Refusal::OutOfTurn,
+            place: 0,
+        });
     }
-    ReadReply {
-        answer: ReadAnswer::Read,
-        desk: desk::with_stairs(e),
-    }
+    Ok(())
 }
 
-// The desk of a plan; or why it is refused, the place of the field that is, and the bare desk.
+// The desk of a plan, its stairs built once, for the slots then held; or why it is refused, the place of the field that
+// is, and the bare desk.
 pub fn read(plan: &[u8]) -> ReadReply
     ensures { (result ≡ read_reply (read_plan plan.now)) × Fit result.desk }
 {
-    let mut e = entries::none();
-    let mut at: usize = 0;
-    while at < plan.len() {
-        let w = walk_on(plan, at, e);
-        let verdict = w.verdict;
-        if let Verdict::Refused(why) = verdict {
-            return refused_at(why, w.at);
-        }
-        at = w.at;
-        e = w.entries;
+    let mut e = Entries::none();
+    match walk(plan, &mut e) {
+        Ok(_) => ReadReply {
+            answer: Ok(()),
+            desk: desk::with_stairs(e),
+        },
+        Err(refused) => ReadReply {
+            answer: Err(refused),
+            desk: desk::bare(),
+        },
     }
-    finish(e, at)
 }

@@ -8,7 +8,7 @@ use native.Mathlib.Omega.{arith}
 use lib.ListN.{length}
 use lib.Dec.{ltb}
 use borrow.Author.Tests.{ltb-true, ltb-false}
-use Rattle.std.specs.Prelude.{Option, None, Some, nat_lt}
+use Rattle.std.specs.Prelude.{None, Some, nat_lt}
 use Rattle.std.specs.Option.{unwrap_or, is_some}
 use Rattle.std.specs.List.{list_any, position, position_or_len}
 use Rattle.laws.specs.Lists.{any, place_by}

@@ -78,7 +78,8 @@ fn first_larger<T: Keyed>(held: &[T], key: u32) -> Option<usize>
     held.iter().position(|x| key < x.key())
 }
 
-// One more among the first n, by rising key: it stands before the first one with a larger key, and those move one place on.
+// One more among the first n, by rising key: before the first one with a larger key, and from there on each moves one
+// place on.
 pub fn insert<T: Keyed>(row: &mut [T], n: usize, x: T)
     requires { (n < length row.old) × (row.old ≡ filled (length row.old) T.free_place (take n row.old)) }
     ensures { row.new ≡ filled (length row.old) T.free_place (insert_by T.key_of x (take n row.old)) }

@@ -1,54 +1,39 @@
--- `reader::read` meets its contract: turn by turn, what is left from a place decides what the plan gives.
-use mathlib.Core.Path.{sym, ap, ◌∙◌}
-use Prim.Native.Nat.{ℕ, zero-le}
-use native.Mathlib.Omega.{arith}
-use Rattle.meaning.specs.Bytes.{refused_at}
-use Rattle.entries.specs.Entries.{held_in}
+-- `reader::read` meets its contract: the desk of what the walk holds, or the bare desk.
+use Rattle.std.proofs.Common.{◌≡◌, Result, Ok, Err, sym, ap, ◌∙◌}
+use Rattle.meaning.specs.Desks.{bare}
+use Rattle.meaning.specs.Bytes.{Outcome, read, refused_at, desk_read}
 use Rattle.entries.proofs.Opened.{held_of_entries}
-use Rattle.reader.specs.Reading.{read_reply}
-use Rattle.reader.proofs.Walks.{read_start, read_turn, read_stops, read_ends, went_on, went_no_further}
+use Rattle.entries.specs.Entries.{held_in}
+use Rattle.desk.specs.declared.Desk.{Desk}
+use Rattle.desk.specs.Desks.{desk_of}
+use Rattle.reader.specs.declared.RefusedAt.{RefusedAt}
+use Rattle.reader.specs.declared.ReadReply.{ReadReply}
+use Rattle.reader.specs.Reading.{read_answer, read_reply}
 use Rattle.reader.proofs.read.Goals as goal
 
-pub loop-at-init : goal.loop-at-init
-loop-at-init c =
-    let (same, fit) = c.none-e.ensures in
-    let plan = c.args.plan.now in
-    (fit, zero-le, rw (ap held_in same ∙ held_of_entries _) (read_start plan))
+-- the reply with this answer and desk
+abbrev with_desk : Result (Unit {0}) RefusedAt → Desk → ReadReply
+with_desk a d = record { answer = a; desk = d }
 
-pub walk_on-w-requires : goal.walk_on-w-requires
-walk_on-w-requires c = (c.loop-at-test.true, c.loop-at.invariant.0)
+-- what is refused hands back the bare desk
+refused_reply : (x : RefusedAt) (o : Outcome) → Err x ≡ read_answer o → with_desk (Err x) (desk_of bare) ≡ read_reply o
+unfolding desk_read
+refused_reply x (read d) q = cc
+refused_reply x (refused_at r place) q = ap (λ (a : Result (Unit {0}) RefusedAt). with_desk a (desk_of bare)) q
 
-pub returns-in-Refused : goal.returns-in-Refused
-returns-in-Refused c =
-    let plan = c.args.plan.now in
-    let (place, stops) =
-    went_no_further plan c.loop-at.at c.loop-at.e _ c.loop-at-test.true c.walk_on-w.ensures.0 _
-    c.in-Refused.is in
-    let (same, fit) = c.refused_at.ensures in (
-      same
-          ∙ ap (λ (n : ℕ). read_reply (refused_at c.in-Refused.why n)) place
-          ∙ sym (ap read_reply (read_stops plan c.loop-at.at _ c.loop-at.invariant.2 _ stops)),
-      fit,
-    )
+pub walk-requires : goal.walk-requires
+walk-requires c = (c.none-e.ensures.1, ap held_in c.none-e.ensures.0 ∙ held_of_entries bare)
 
-pub loop-at-smaller : goal.loop-at-smaller
-loop-at-smaller c =
-    let on =
-    went_on c.args.plan.now c.loop-at.at c.loop-at.e _ c.loop-at-test.true c.walk_on-w.ensures.0 c.in_default.is in
-    omega (arith, on.0, c.loop-at.invariant.1, c.loop-at-test.true)
+pub with_stairs-requires : goal.with_stairs-requires
+with_stairs-requires c = (c.in-Ok.ensures.2, c.in-Ok.ensures.1.0)
 
-pub loop-at-preserved : goal.loop-at-preserved
-loop-at-preserved c =
-    let (_, within, fit) = c.walk_on-w.ensures in
-    let plan = c.args.plan.now in
-    let on = went_on plan c.loop-at.at c.loop-at.e _ c.loop-at-test.true c.walk_on-w.ensures.0 c.in_default.is in
-    (fit, within, read_turn plan c.loop-at.at _ c.loop-at.invariant.2 _ _ on.1)
+pub returns-in-Ok : goal.returns-in-Ok
+unfolding desk_read
+returns-in-Ok c =
+    let (same, fit) = c.with_stairs.ensures in
+    (ap (with_desk (Ok tt)) same ∙ sym (ap read_reply c.in-Ok.ensures.1.1), fit)
 
-pub finish-requires : goal.finish-requires
-finish-requires c = c.loop-at.invariant.0
-
-pub returns : goal.returns
-returns c =
-    let plan = c.args.plan.now in
-    let (same, fit) = c.finish.ensures in
-    (same ∙ sym (ap read_reply (read_ends plan c.loop-at.at _ c.loop-at.invariant.2 c.loop-at-test.false)), fit)
+pub returns-in-Err : goal.returns-in-Err
+returns-in-Err c =
+    let (same, fit) = c.bare.ensures in
+    (ap (with_desk (Err c.in-Err.refused)) same ∙ refused_reply c.in-Err.refused _ c.in-Err.ensures.0, fit)

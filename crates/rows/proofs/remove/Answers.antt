@@ -1,5 +1,5 @@
 -- `rows::remove` meets its contract: the part from place p on is turned by one place, and the last place freed.
-use Rattle.std.proofs.Common.{◌≡◌, ◌∙◌, ap, length, ◌-◌}
+use Rattle.std.proofs.Common.{◌∙◌, ap, length, ◌-◌}
 use Rattle.std.proofs.Math.ListN.{set}
 use borrow.Rule.Slice.PartMut.{put_mid}
 use Rattle.laws.proofs.Shifting.{turned_left, one_less}

@@ -1,5 +1,4 @@
 -- `entries::Entries::drop_stream` meets its contract: each answer is the meaning's, by the tests that led to it.
-use mathlib.Core.Path.{◌≡◌, ap, ◌∙◌}
 use native.Mathlib.Omega.{arith}
 use Prim.Native.Nat.{◌<◌}
 use lib.ListN.{length}

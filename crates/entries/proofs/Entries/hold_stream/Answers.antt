@@ -1,4 +1,5 @@
--- `entries::Entries::hold_stream` meets its contract: an open port, numbers in range, and then what `place_stream` answers.
+-- `entries::Entries::hold_stream` meets its contract: an open port, numbers in range, and then
+-- what `place_stream` answers.
 use mathlib.Core.Path.{◌≡◌, subst}
 use mathlib.Core.Bool.{false}
 use Prim.Native.Nat.{ℕ}
@@ -6,7 +7,6 @@ use Rattle.meaning.specs.Ranges.{stream_ranges, in_range}
 use Rattle.meaning.specs.declared.Refusal.TheVariants.{OutOfTurn, OutOfRange}
 use Rattle.ranges.specs.Numbers.{stream_of}
 use Rattle.ranges.proofs.Testing.{refused_out_of_range}
-use Rattle.entries.specs.Entries.{port_in}
 use Rattle.entries.proofs.Opened.{open_entries}
 use Rattle.entries.proofs.Answers.{handed_on_edits}
 use Rattle.entries.proofs.StreamLaws.{add_stream_out_of_turn, add_stream_out_of_range}

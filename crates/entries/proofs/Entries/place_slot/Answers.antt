@@ -25,6 +25,7 @@ returns-then-n-ge32 c =
     refusal_edits e _ Full c.requires.0 (add_slot_full e c.args.s o c.requires.2 full)
 
 -- ---- 6: no slot held overlaps it
+-- by 7 those held fit the row
 
 pub returns-then-overlaps_any : goal.returns-then-overlaps_any
 returns-then-overlaps_any c =

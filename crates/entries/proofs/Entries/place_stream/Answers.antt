@@ -1,5 +1,5 @@
 -- `entries::Entries::place_stream` meets its contract: each answer is the meaning's, by the tests that led to it.
-use mathlib.Core.Path.{◌≡◌, sym, ◌∙◌}
+use mathlib.Core.Path.{sym, ◌∙◌}
 use mathlib.Core.Bool.{true, false}
 use lib.Dec.{eqb}
 use Rattle.std.specs.List.{position}
