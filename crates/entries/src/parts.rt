@@ -24,7 +24,7 @@ impl Entries {
     }
 
     // The slots held.
-    pub(crate) fn held_slots(&self) -> &[Slot]
+    pub fn held_slots(&self) -> &[Slot]
         requires { self.now.nslots ≤ 32 }
         ensures { result.now ≡ slots_in self.now }
     {
