@@ -32,7 +32,7 @@ impl Entries {
     }
 
     // The streams held.
-    pub(crate) fn held_streams(&self) -> &[Stream]
+    pub fn held_streams(&self) -> &[Stream]
         requires { self.now.nstreams ≤ 64 }
         ensures { result.now ≡ streams_in self.now }
     {
