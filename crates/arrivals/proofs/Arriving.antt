@@ -54,7 +54,7 @@ frames_under x period jitter inv pos h =
 
 -- ---- in range
 
-pub frames_grow : (x y period jitter : ℕ) → x ≤ y → 10_000 ≤ period
+frames_grow : (x y period jitter : ℕ) → x ≤ y → 10_000 ≤ period
     → most_in (row_stream period jitter) x ≤ most_in (row_stream period jitter) y
 frames_grow x y period jitter h long = most_grows (counted (row_stream period jitter) (omega arith)) x y h
 

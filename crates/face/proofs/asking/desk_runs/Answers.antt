@@ -14,20 +14,20 @@ use Rattle.face.specs.Told.{numbered_runs}
 use Rattle.face.proofs.Given.{given}
 use Rattle.face.proofs.asking.desk_runs.Goals as goal
 
-pub runs-requires : goal.runs-requires
-runs-requires c = c.requires
+pub runs-answer-requires : goal.runs-answer-requires
+runs-answer-requires c = c.requires
 
 pub returns : goal.returns
 returns c =
     let d = c.args.d in
-    let zero = c.default.ensures in
-    let free : c.default.result ≡ no_run = λ i. record { start = zero.0 i; len = zero.1 i } in
-    let none : record { n = 0; row = replicate 32 c.default.result } ≡ run_row [] =
+    let zero = c.default-no_run.ensures in
+    let free : c.default-no_run.result ≡ no_run = λ i. record { start = zero.0 i; len = zero.1 i } in
+    let none : record { n = 0; row = replicate 32 c.default-no_run.result } ≡ run_row [] =
     ap (λ (r : Run). record { n = 0; row = replicate 32 r }) free ∙ row_none in
-    let rows = c.unwrap_or-found.ensures ∙ ap (result_unwrap_or c.runs.result.answer) none in
+    let rows = c.unwrap_or-found.ensures ∙ ap (result_unwrap_or c.runs-answer.result.answer) none in
     let number = c.number_of_answer.ensures in
     (
       (λ i. record { number = number i; count = (rows i).n; runs = (rows i).row; desk = d })
-          ∙ given numbered_runs d c.requires (ask_runs (held d)) _ _ c.runs.ensures.0 refl,
+          ∙ given numbered_runs d c.requires (ask_runs (held d)) _ _ c.runs-answer.ensures.0 refl,
       c.requires,
     )

@@ -8,16 +8,16 @@ use Rattle.face.specs.Told.{numbered_stairs}
 use Rattle.face.proofs.Given.{given}
 use Rattle.face.proofs.asking.desk_stairs.Goals as goal
 
-pub stairs-requires : goal.stairs-requires
-stairs-requires c = c.requires
+pub stairs-answer-requires : goal.stairs-answer-requires
+stairs-answer-requires c = c.requires
 
 pub returns : goal.returns
 returns c =
     let d = c.args.d in
-    let rows = c.unwrap_or-found.ensures ∙ ap (result_unwrap_or c.stairs.result.answer) (sym table_none) in
+    let rows = c.unwrap_or-found.ensures ∙ ap (result_unwrap_or c.stairs-answer.result.answer) (sym table_none) in
     let number = c.number_of_answer.ensures in
     (
       (λ i. record { number = number i; count = (rows i).n; far = (rows i).far; tot = (rows i).tot; desk = d })
-          ∙ given numbered_stairs d c.requires (ask_stairs (held d)) _ _ c.stairs.ensures.0 refl,
+          ∙ given numbered_stairs d c.requires (ask_stairs (held d)) _ _ c.stairs-answer.ensures.0 refl,
       c.requires,
     )

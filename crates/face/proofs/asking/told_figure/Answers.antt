@@ -2,4 +2,4 @@
 use Rattle.face.proofs.asking.told_figure.Goals as goal
 
 pub returns : goal.returns
-returns c = rw (c.figure_number-number.ensures, c.figure_value-value.ensures)
+returns c = rw (c.number_of_answer.ensures, c.figure_value.ensures)

@@ -6,15 +6,15 @@ use Rattle.face.specs.Told.{numbered_write}
 use Rattle.face.proofs.Given.{given, counted}
 use Rattle.face.proofs.plans.desk_write.Goals as goal
 
-pub write-requires : goal.write-requires
-write-requires c = c.requires
+pub write-answer-requires : goal.write-answer-requires
+write-answer-requires c = c.requires
 
 pub returns : goal.returns
 returns c =
     let d = c.args.d in
-    let (same, room, fit) = c.write.ensures in
+    let (same, room, fit) = c.write-answer.ensures in
     (
-      rw (c.number_of_answer.ensures, c.unwrap_or.ensures, counted c.write.result.answer)
+      rw (c.number_of_answer.ensures, c.unwrap_or.ensures, counted c.write-answer.result.answer)
           (given numbered_write d c.requires (written (write_plan c.args.room.now (held d))) _ _ same refl),
       room,
       c.requires,
