@@ -1,20 +1,37 @@
 // The streams that count for a response (document 01, "Response bound"), as rows of numbers.
 #![tactic(auto)]
 
-ghost use Rattle.std.specs.Prelude.{◌≡◌, ◌≤◌, length};
+ghost use Rattle.std.specs.Prelude.{◌≡◌, ◌≤◌, ◌<◌, length};
 ghost use Rattle.laws.specs.Lists.{Mem, without};
 ghost use Rattle.meaning.specs.declared.Stream.{Stream};
 ghost use Rattle.meaning.specs.Wire.{wire_time};
-ghost use Rattle.ahead.specs.Unpacked.{StreamFits, unpacked, ahead_of};
+ghost use Rattle.ahead.specs.Unpacked.{ahead_of, pushed};
 
-use arrivals::Rows;
 use meaning::Stream;
 
-// The streams of equal or higher priority, and the largest wire time of a stream of lower priority, 0 with none.
+// The streams of equal or higher priority: how many, and the period, the jitter and the wire time of each. Beside them
+// the largest wire time of a stream of lower priority, 0 with none.
+// Stays: no plainer with a Rows in it: unpack promises its rows for streams of any period, and a Rows is in range.
 #[derive(Clone, Copy)]
 pub struct Ahead {
-    pub rows: Rows,
+    pub n: usize,
+    pub per: [u32; 64],
+    pub jit: [u32; 64],
+    pub cost: [u32; 64],
     pub lower: u32,
+}
+
+impl Ahead {
+    // One stream more of equal or higher priority.
+    fn push(&mut self, period: u32, jitter: u32, cost: u32)
+        requires { self.old.n < 64 }
+        ensures { self.new ≡ pushed self.old period jitter cost }
+    {
+        self.per[self.n] = period;
+        self.jit[self.n] = jitter;
+        self.cost[self.n] = cost;
+        self.n += 1;
+    }
 }
 
 // The wire time of a frame, 0 at a number that is no rate code.
@@ -28,21 +45,26 @@ pub fn wire_of(rate: u32, octets: u32) -> u32
 // The streams beside own, all but the one at place leave, as rows of numbers: those of equal or higher priority, and of
 // the others the largest wire time. A place leave past them leaves none out.
 pub fn unpack(rate: u32, streams: &[Stream], own: Stream, leave: usize) -> Ahead
-    requires { (length streams.now ≤ 64) × ((j : Stream) → Mem j streams.now → StreamFits j) }
-    ensures { unpacked result ≡ ahead_of rate own (without leave streams.now) }
+    requires { (length streams.now ≤ 64) × ((j : Stream) → Mem j streams.now → j.octets ≤ 2_000) }
+    ensures { result ≡ ahead_of rate own (without leave streams.now) }
 {
-    let mut rows = Rows::none();
-    let mut lower: u32 = 0;
+    let mut a = Ahead {
+        n: 0,
+        per: [0; 64],
+        jit: [0; 64],
+        cost: [0; 64],
+        lower: 0,
+    };
     for (i, s) in streams.iter().enumerate() {
         if i == leave {
             continue;
         }
         let cost = wire_of(rate, s.octets);
         if own.priority <= s.priority {
-            rows.push(s.period, s.jitter, cost);
+            a.push(s.period, s.jitter, cost);
         } else {
-            lower = lower.max(cost);
+            a.lower = a.lower.max(cost);
         }
     }
-    Ahead { rows, lower }
+    a
 }

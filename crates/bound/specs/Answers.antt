@@ -6,7 +6,6 @@ use Rattle.laws.specs.Numbers.{Mono}
 use Rattle.meaning.specs.declared.Stream.{Stream}
 use Rattle.meaning.specs.Arrivals.{most_in}
 use Rattle.meaning.specs.Response.{bound}
-use Rattle.ahead.specs.Unpacked.{StreamFits}
 use Rattle.search.specs.Asked.{Asked, own_stream, calm_own, row_busy}
 use Rattle.frames.specs.Windows.{Beside}
 
@@ -18,6 +17,13 @@ response_of math.none = None
 response_of (math.some r) = Some r
 
 -- ---- what a question asks of its numbers
+
+-- a stream whose numbers are in range, whatever the octet limit
+pub record StreamFits (j : Stream) : Type 0 where
+  pub octets_most : j.octets ≤ 2_000
+  pub period_least : 10_000 ≤ j.period
+  pub period_most : j.period ≤ 100_000_000
+  pub jitter_most : j.jitter ≤ 100_000_000
 
 -- of v, as it is read from stairs, and of all blocked cells: v grows and spreads; streams in range, a rate code
 pub record Asks (rate : ℕ) (v : ℕ → ℕ) (all : ℕ) (streams : List Stream) (own : Stream) : Type 0 where

@@ -47,11 +47,20 @@ pub fn response_bound(
         (lower_wire rate own (without leave streams.now)) (without leave streams.now) own) }
 {
     let a = unpack(rate, streams, own, leave);
+    let per = a.per;
+    let jit = a.jit;
+    let cost = a.cost;
+    let rows = Rows {
+        n: a.n,
+        per,
+        jit,
+        cost,
+    };
     let own = Own {
         lower: a.lower,
         wire: wire_of(rate, own.octets),
         period: own.period,
         jitter: own.jitter,
     };
-    rows_bound(&a.rows, stairs, &own)
+    rows_bound(&rows, stairs, &own)
 }

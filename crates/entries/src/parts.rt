@@ -8,7 +8,7 @@ use crate::Entries;
 use meaning::{Gate, Refusal, Slot, Stream};
 
 // The octets of a frame, at most.
-const OCTET_LIMIT: u32 = 1_522;
+const OCTET_LIMIT: u64 = 1_522;
 
 impl Entries {
     // A port must be open.
@@ -32,7 +32,7 @@ impl Entries {
     }
 
     // The streams held.
-    pub(crate) fn held_streams(&self) -> &[Stream]
+    pub fn held_streams(&self) -> &[Stream]
         requires { self.now.nstreams ≤ 64 }
         ensures { result.now ≡ streams_in self.now }
     {
@@ -53,7 +53,7 @@ impl Entries {
 
     // The octets of a frame, at most, by the port.
     #[tactic(auto, unfolding(meaning::specs::Ranges::octet_limit))]
-    pub(crate) fn octet_limit(&self) -> u32
+    pub(crate) fn octet_limit(&self) -> u64
         ensures { result ≡ octet_limit (port_in self.now) }
     {
         OCTET_LIMIT

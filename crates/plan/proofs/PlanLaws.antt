@@ -9,6 +9,7 @@ use Prim.Native.Nat.{ℕ, ◌+◌, ◌*◌, ◌≤◌, ◌<◌}
 use native.Mathlib.Decide.{dec_le}
 use native.Mathlib.Omega.{arith}
 use lib.ListN.{length, take, drop}
+use Rattle.std.specs.Prelude.{Ok, Err}
 use Rattle.laws.specs.Lists.{joined, Mem}
 use Rattle.meaning.specs.declared.Port.{Port}
 use Rattle.meaning.specs.declared.Refusal.{Refusal}
@@ -31,25 +32,27 @@ use Rattle.meaning.proofs.ReadBack.{written_reads_back}
 use Rattle.meaning.proofs.WritersOrder.{written_back}
 use Rattle.meaning.proofs.Cuts.{cut_same, cut_met}
 use Rattle.meaning.proofs.Mixing.{mixed_plans, mixed_octets}
+use Rattle.answers.specs.Answers.{answer_number}
 use Rattle.desk.specs.declared.Desk.{Desk}
-use Rattle.desk.specs.declared.EditReply.{EditReply}
+use Rattle.desk.specs.declared.Reply.{Reply}
 use Rattle.desk.specs.Desks.{desk_of, held, Fit, edit_reply}
-use Rattle.desk.specs.Edits.{accepting}
 use Rattle.desk.proofs.Held.{held_of, held_bare, fit_of, no_second_reply}
-use Rattle.reader.specs.declared.ReadAnswer.TheVariants as reads
+use Rattle.reader.specs.declared.RefusedAt.{RefusedAt}
 use Rattle.reader.specs.declared.ReadReply.{ReadReply}
-use Rattle.writer.specs.declared.WriteAnswer.TheVariants.{Wrote, Refused}
-use Rattle.writer.specs.declared.WriteReply.{WriteReply}
 use Rattle.reader.specs.Reading.{read_reply}
-use Rattle.writer.specs.Writing.{write_reply, write_number}
+use Rattle.writer.specs.Writing.{write_reply}
 use Rattle.writer.proofs.Writes.{length_in, Writes, length_of, write_closed, write_no_room, write_open}
 
 -- ---- what the two calls answer, by their contracts
 
+-- a refusal and its place
+abbrev at_place : Refusal → ℕ → RefusedAt
+at_place why place = record { why = why; place = place }
+
 abbrev pub read_of : List ℕ → ReadReply
 read_of octets = read_reply (read_plan octets)
 
-abbrev pub write_of : Desk → List ℕ → WriteReply
+abbrev pub write_of : Desk → List ℕ → Reply ℕ
 write_of d room = write_reply (asked (held d) (written (write_plan room (held d))))
 
 -- what `write` leaves in the room
@@ -58,15 +61,15 @@ left_in d room = room_after room (write_plan room (held d))
 
 -- the octets are read as this desk
 abbrev pub ReadAs : List ℕ → Desk → Type 0
-ReadAs octets d = read_of octets ≡ record { answer = reads.Read; desk = d }
+ReadAs octets d = read_of octets ≡ record { answer = Ok tt; desk = d }
 
 -- n octets of this desk are written
 abbrev pub WroteOf : Desk → List ℕ → ℕ → Type 0
-WroteOf d room n = write_of d room ≡ record { answer = Wrote n; desk = d }
+WroteOf d room n = write_of d room ≡ record { answer = Ok n; desk = d }
 
 -- nothing is written of it, for this reason
 abbrev pub WriteRefused : Desk → List ℕ → Refusal → Type 0
-WriteRefused d room why = write_of d room ≡ record { answer = Refused why; desk = d }
+WriteRefused d room why = write_of d room ≡ record { answer = Err why; desk = d }
 
 -- ---- no second reply
 
@@ -75,7 +78,7 @@ pub read_one_reply : (octets : List ℕ) (r s : ReadReply) → r ≡ read_of oct
 read_one_reply octets r s a b = no_second_reply a b
 
 -- of writing, with what is left in the room
-pub write_one_reply : (d : Desk) (room : List ℕ) (r s : WriteReply) (after other : List ℕ) → Writes d room r after
+pub write_one_reply : (d : Desk) (room : List ℕ) (r s : Reply ℕ) (after other : List ℕ) → Writes d room r after
     → Writes d room s other → (r ≡ s) × (after ≡ other)
 write_one_reply d room r s after other (a, b, _) (c, e, _) = (no_second_reply a c, no_second_reply b e)
 
@@ -83,14 +86,14 @@ write_one_reply d room r s after other (a, b, _) (c, e, _) = (no_second_reply a 
 
 accepted_reads : (octets : List ℕ) (d : Desk) (e : Plan) → d ≡ desk_of e → AcceptedPlan octets e → ReadAs octets d
 unfolding desk_read
-accepted_reads octets d e s q = ap read_reply q ∙ (λ i. record { answer = reads.Read; desk = sym s i })
+accepted_reads octets d e s q = ap read_reply q ∙ (λ i. record { answer = Ok tt; desk = sym s i })
 
 -- a plan is read as a desk exactly where document 01 accepts it with the desk held
 pub read_as : (octets : List ℕ) (d : Desk) → ReadAs octets d ↔ (Fit d × AcceptedPlan octets (held d))
 unfolding desk_read
 read_as octets d = (to (read_plan octets) refl, λ (f, q). accepted_reads octets d (held d) f.canonical q)
   where
-    to : (o : Outcome) → read_plan octets ≡ o → read_reply o ≡ record { answer = reads.Read; desk = d }
+    to : (o : Outcome) → read_plan octets ≡ o → read_reply o ≡ record { answer = Ok tt; desk = d }
         → Fit d × AcceptedPlan octets (held d)
     to (read e) q r =
         let same : desk_of e ≡ d = ap (λ (x : ReadReply). x.desk) r in
@@ -114,7 +117,7 @@ read_first_4096 octets = ap read_reply (cut_same octets)
 -- which is a refusal, at a field that starts within the longest plan, and never for its end
 pub read_long : (octets : List ℕ) → 4_096 < length octets
     → (why : Refusal) × (place : ℕ)
-    × (read_of octets ≡ record { answer = reads.Refused why place; desk = desk_of bare })
+    × (read_of octets ≡ record { answer = Err (at_place why place); desk = desk_of bare })
     × (place ≤ 1_648) × (number_of why ≢ 1)
 unfolding desk_read
 read_long octets h =
@@ -122,6 +125,10 @@ read_long octets h =
     (why, place, ap read_reply q, low, whole)
 
 -- ---- reading and the desk's edits
+
+-- the reply of an accepted call
+abbrev accepting : Desk → Reply (Unit {0})
+accepting d = record { answer = Ok tt; desk = d }
 
 -- the calls that the fields name, each accepted, lead from one desk to the other
 abbrev pub CallsTo : List Field → Desk → Desk → Type 0
@@ -142,9 +149,9 @@ unfolding edited
 call_made f e c = go (edit f e)
   where
     go : (x : Answer Plan) → edit_reply (edited e x) ≡ accepting c → (h : Plan) × (x ≡ accepted h) × (c ≡ desk_of h)
-    go (accepted h) r = (h, refl, sym (ap (λ (y : EditReply). y.desk) r))
+    go (accepted h) r = (h, refl, sym (ap (λ (y : Reply (Unit {0})). y.desk) r))
     go (refused why) r =
-        let v = ap (λ (y : EditReply). y.verdict) r in
+        let v = ap (λ (y : Reply (Unit {0})). y.answer) r in
         let z : ◌≡◌ {A = ℕ} 0 1 = cc in
         absurd (omega arith)
 
@@ -184,18 +191,21 @@ read_calls_of f fs octets m d = (
 
 -- a plan is refused exactly where it is empty, or a field is refused behind edits that are accepted, at that field
 pub read_refused : (octets : List ℕ) (why : Refusal) (place : ℕ)
-    → (read_of octets ≡ record { answer = reads.Refused why place; desk = desk_of bare })
+    → (read_of octets ≡ record { answer = Err (at_place why place); desk = desk_of bare })
     ↔ (EmptyPlan octets why place ⊎ RefusedField octets why place)
 unfolding desk_read
 read_refused octets why place = Iff.trans (to (read_plan octets), ap read_reply) (refused_when octets why place)
   where
-    to : (o : Outcome) → read_reply o ≡ record { answer = reads.Refused why place; desk = desk_of bare }
+    to : (o : Outcome) → read_reply o ≡ record { answer = Err (at_place why place); desk = desk_of bare }
         → o ≡ refused_at why place
     to (read e) r =
         let v = ap (λ (x : ReadReply). x.answer) r in
         let z : ◌≡◌ {A = ℕ} 0 1 = cc in
         absurd (omega arith)
-    to (refused_at w p) r = let v = ap (λ (x : ReadReply). x.answer) r in cc
+    to (refused_at w p) r =
+        let v = ap (λ (x : ReadReply). x.answer) r in
+        let x : ◌≡◌ {A = RefusedAt} (at_place w p) (at_place why place) = cc in
+        λ i. refused_at (x i).why (x i).place
 
 -- ---- slots and streams that come mixed
 
@@ -228,15 +238,15 @@ unfolding asked written
 wrote d room n = go (write_plan room (held d)) refl
   where
     go : (a : Answer (List ℕ)) → write_plan room (held d) ≡ a
-        → write_reply (asked (held d) (written a)) ≡ record { answer = Wrote n; desk = d }
+        → write_reply (asked (held d) (written a)) ≡ record { answer = Ok n; desk = d }
         → (write_plan room (held d) ≡ accepted (plan_octets (held d))) × (n ≡ plan_length (held d))
         × (plan_length (held d) ≤ length room)
     go (refused why) q r =
-        let v = ap (λ (x : WriteReply). x.answer) r in
+        let v = ap (λ (x : Reply ℕ). x.answer) r in
         let z : ◌≡◌ {A = ℕ} 0 1 = cc in
         absurd (omega arith)
     go (accepted octets) q r =
-        let v = ap (λ (x : WriteReply). x.answer) r in
+        let v = ap (λ (x : Reply ℕ). x.answer) r in
         let long : length octets ≡ n = cc in
         let (fits, e) = write_accepted room (held d) octets q in
         (q ∙ ap accepted e, sym long ∙ ap length e ∙ plan_octets_length (held d), fits)
@@ -282,9 +292,9 @@ module _ (d : Desk) (f : Fit d) (room : List ℕ) where
   -- ---- what is refused
 
   -- two replies with two numbers are not one
-  numbered_apart : (r s : WriteReply) → write_number r.answer ≢ write_number s.answer → r ≡ write_of d room
+  numbered_apart : (r s : Reply ℕ) → answer_number r.answer ≢ answer_number s.answer → r ≡ write_of d room
       → ¬ (write_of d room ≡ s)
-  numbered_apart r s ne a b = ne (ap (λ (x : WriteReply). write_number x.answer) (a ∙ b))
+  numbered_apart r s ne a b = ne (ap (λ (x : Reply ℕ). answer_number x.answer) (a ∙ b))
 
   -- the desk is bare; or it is open, and the room too short or long enough
   by_room : {X : Type 0} → (d.opened ≡ false → X) → (d.opened ≡ true → length room < length_in d → X)
@@ -297,7 +307,7 @@ module _ (d : Desk) (f : Fit d) (room : List ℕ) where
 
   -- 4 exactly where the desk is bare
   pub writes_4 : WriteRefused d room OutOfTurn ↔ (d.opened ≡ false)
-  unfolding write_number number_of
+  unfolding answer_number number_of
   writes_4 = (
     λ r.
         by_room (λ o. o)
@@ -308,7 +318,7 @@ module _ (d : Desk) (f : Fit d) (room : List ℕ) where
 
   -- 11 exactly where it is open and the room is too short
   pub writes_11 : WriteRefused d room NoRoom ↔ ((d.opened ≡ true) × (length room < length_in d))
-  unfolding write_number number_of
+  unfolding answer_number number_of
   writes_11 = (
     λ r.
         by_room (λ o. absurd (numbered_apart _ _ (λ e. omega arith) (write_closed d f room o).0 r)) (λ o l. (o, l))
@@ -322,10 +332,10 @@ module _ (d : Desk) (f : Fit d) (room : List ℕ) where
   refused_room why = go (write_plan room (held d)) refl
     where
       go : (a : Answer (List ℕ)) → write_plan room (held d) ≡ a
-          → write_reply (asked (held d) (written a)) ≡ record { answer = Refused why; desk = d } → left_in d room ≡ room
+          → write_reply (asked (held d) (written a)) ≡ record { answer = Err why; desk = d } → left_in d room ≡ room
       go (refused w) q r = room_untouched room (held d) w q
       go (accepted octets) q r =
-          let v = ap (λ (x : WriteReply). x.answer) r in
+          let v = ap (λ (x : Reply ℕ). x.answer) r in
           let z : ◌≡◌ {A = ℕ} 0 1 = cc in
           absurd (omega arith)
 
@@ -351,4 +361,4 @@ written_again octets d o w r room fits =
     let some = ((accepted_when octets (held d)).0 e).0 in
     let q : write_plan room (held d) ≡ accepted octets =
     rw same at (writes room (held d) (rw same some) (rw same fits)) in
-    (rw q (λ i. record { answer = Wrote (length octets); desk = sym f.canonical i }), rw q)
+    (rw q (λ i. record { answer = Ok (length octets); desk = sym f.canonical i }), rw q)

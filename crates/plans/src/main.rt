@@ -8,11 +8,11 @@ ghost use Rattle.desk.specs.Desks.{Fit};
 
 use anyhow::Context;
 use desk::Desk;
-use reader::ReadAnswer;
+use meaning::Refusal;
+use reader::RefusedAt;
 use std::io::Read;
 use std::rt::Files;
 use std::{env, fs, io};
-use writer::WriteAnswer;
 
 // The longest input, and the room for the writer.
 const LONGEST: u64 = 8_192;
@@ -24,25 +24,18 @@ fn put(rt: &impl Print, a: u64, b: u64) -> io::Result<()> {
     print!(rt; " {a} {b}")
 }
 
-fn put_read(rt: &impl Print, a: ReadAnswer) -> io::Result<()> {
+fn put_read(rt: &impl Print, a: Result<(), RefusedAt>) -> io::Result<()> {
     match a {
-        ReadAnswer::Read => put(rt, 0, 0),
-        ReadAnswer::Refused { why, place } => put(rt, answers::number(why), place as u64),
+        Ok(_) => put(rt, 0, 0),
+        Err(RefusedAt { why, place }) => put(rt, answers::number(why), place as u64),
     }
 }
 
 // The writer's answer; its count.
-fn put_written(rt: &impl Print, a: WriteAnswer) -> io::Result<usize> {
-    match a {
-        WriteAnswer::Wrote(n) => {
-            put(rt, 0, n as u64)?;
-            Ok(n)
-        }
-        WriteAnswer::Refused(why) => {
-            put(rt, answers::number(why), 0)?;
-            Ok(0)
-        }
-    }
+fn put_written(rt: &impl Print, a: Result<usize, Refusal>) -> io::Result<usize> {
+    let count = a.unwrap_or(0);
+    put(rt, answers::number_of_answer(&a), count as u64)?;
+    Ok(count)
 }
 
 // The octets of the room from its front, in hex: n of them and four more.

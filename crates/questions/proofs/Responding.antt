@@ -31,8 +31,7 @@ use Rattle.meaning.proofs.Windows.{all_at_most_cycle}
 use Rattle.table.specs.Lookup.{all_in, stairs_in, stairs_v}
 use Rattle.table.proofs.Demand.{all_is, rows_give_interference}
 use Rattle.table.proofs.Reached.{all_take, lent_v}
-use Rattle.ahead.specs.Unpacked.{StreamFits}
-use Rattle.bound.specs.Answers.{response_of, Asks}
+use Rattle.bound.specs.Answers.{response_of, StreamFits, Asks}
 use Rattle.bound.proofs.Others.{others_without}
 use Rattle.rows.specs.Rows.{no_stream}
 use Rattle.rows.proofs.Searching.{place_some, some_any}

@@ -1,9 +1,8 @@
 // The ranges of document 01: the numbers of a call are tested, and those in range are stored in 32 bits.
 #![tactic(auto)]
 
-ghost use Rattle.std.specs.Prelude.{◌≡◌, true, false, MatchResult};
-ghost use Rattle.meaning.specs.declared.Refusal.TheVariants.{OutOfRange};
-ghost use Rattle.meaning.specs.Ranges.{within, port_ranges, slot_ranges, stream_ranges};
+ghost use Rattle.std.specs.Prelude.{◌≡◌, ◌<◌};
+ghost use Rattle.meaning.specs.Ranges.{port_ranges, slot_ranges, stream_ranges, in_range};
 ghost use Rattle.ranges.specs.Numbers.{port_of, slot_of, stream_of, tested};
 
 use meaning::{Port, Refusal, Slot, Stream};
@@ -56,16 +55,36 @@ impl From<Stream> for StreamNumbers {
     }
 }
 
-// The number x in 32 bits, where it lies from lo to hi, both in range.
-fn number(lo: u32, hi: u32, x: u64) -> Result<u32, Refusal>
-    ensures { MatchResult result (λ y. (within lo hi x ≡ true) × (y ≡ x))
-        (λ why. (within lo hi x ≡ false) × (why ≡ OutOfRange)) }
+// Whether the numbers of a port are in range.
+#[tactic(auto, unfolding(meaning::specs::Ranges::port_ranges, laws::specs::Lists::every))]
+pub fn port_in_range(p: PortNumbers) -> bool
+    ensures { result ≡ in_range (port_ranges (port_of p)) }
 {
-    if u64::from(lo) <= x && x <= u64::from(hi) {
-        Ok(x as u32)
-    } else {
-        Err(Refusal::OutOfRange)
-    }
+    (1..=5).contains(&p.rate)
+        && (1_000..=100_000_000).contains(&p.cycle)
+        && (1..=10_000_000).contains(&p.guard)
+        && (0..=10_000_000).contains(&p.header)
+}
+
+// Whether the numbers of a slot are in range.
+#[tactic(auto, unfolding(meaning::specs::Ranges::slot_ranges, laws::specs::Lists::every))]
+pub fn slot_in_range(cycle: u32, start: u64, end: u64) -> bool
+    ensures { result ≡ in_range (slot_ranges cycle (slot_of start end)) }
+{
+    start < end && end <= u64::from(cycle)
+}
+
+// Whether the numbers of a stream are in range, its octets up to a limit.
+#[tactic(auto, unfolding(meaning::specs::Ranges::stream_ranges, laws::specs::Lists::every))]
+pub fn stream_in_range(limit: u64, j: StreamNumbers) -> bool
+    ensures { result ≡ in_range (stream_ranges limit (stream_of j)) }
+{
+    (0..=65_535).contains(&j.id)
+        && (0..=7).contains(&j.priority)
+        && (64..=limit).contains(&j.octets)
+        && (10_000..=100_000_000).contains(&j.period)
+        && (0..=100_000_000).contains(&j.jitter)
+        && (1..=100_000_000).contains(&j.deadline)
 }
 
 // The port that has these numbers, where they are in range.
@@ -73,11 +92,14 @@ fn number(lo: u32, hi: u32, x: u64) -> Result<u32, Refusal>
 pub fn port(p: PortNumbers) -> Result<Port, Refusal>
     ensures { result ≡ tested (port_ranges (port_of p)) (port_of p) }
 {
+    if !port_in_range(p) {
+        return Err(Refusal::OutOfRange);
+    }
     Ok(Port {
-        rate: number(1, 5, p.rate)?,
-        cycle: number(1_000, 100_000_000, p.cycle)?,
-        guard: number(1, 10_000_000, p.guard)?,
-        header: number(0, 10_000_000, p.header)?,
+        rate: p.rate as u32,
+        cycle: p.cycle as u32,
+        guard: p.guard as u32,
+        header: p.header as u32,
     })
 }
 
@@ -86,27 +108,30 @@ pub fn port(p: PortNumbers) -> Result<Port, Refusal>
 pub fn slot(cycle: u32, start: u64, end: u64) -> Result<Slot, Refusal>
     ensures { result ≡ tested (slot_ranges cycle (slot_of start end)) (slot_of start end) }
 {
-    if start < end && end <= u64::from(cycle) {
-        Ok(Slot {
-            start: start as u32,
-            end: end as u32,
-        })
-    } else {
-        Err(Refusal::OutOfRange)
+    if !slot_in_range(cycle, start, end) {
+        return Err(Refusal::OutOfRange);
     }
+    Ok(Slot {
+        start: start as u32,
+        end: end as u32,
+    })
 }
 
 // The stream that has these numbers, where they are in range, its octets up to a limit.
 #[tactic(auto, unfolding(meaning::specs::Ranges::stream_ranges, laws::specs::Lists::every))]
-pub fn stream(limit: u32, j: StreamNumbers) -> Result<Stream, Refusal>
+pub fn stream(limit: u64, j: StreamNumbers) -> Result<Stream, Refusal>
+    requires { limit < 4_294_967_296 }
     ensures { result ≡ tested (stream_ranges limit (stream_of j)) (stream_of j) }
 {
+    if !stream_in_range(limit, j) {
+        return Err(Refusal::OutOfRange);
+    }
     Ok(Stream {
-        id: number(0, 65_535, j.id)?,
-        priority: number(0, 7, j.priority)?,
-        octets: number(64, limit, j.octets)?,
-        period: number(10_000, 100_000_000, j.period)?,
-        jitter: number(0, 100_000_000, j.jitter)?,
-        deadline: number(1, 100_000_000, j.deadline)?,
+        id: j.id as u32,
+        priority: j.priority as u32,
+        octets: j.octets as u32,
+        period: j.period as u32,
+        jitter: j.jitter as u32,
+        deadline: j.deadline as u32,
     })
 }

@@ -5,6 +5,7 @@ ghost use Rattle.std.specs.Prelude.{◌≡◌, length};
 ghost use Rattle.table.specs.Lookup.{all_in, stairs_v, StairsFit};
 
 // How many stairs there are, their distances and their totals. The places left are 0.
+// Stays: fixed memory, no heap; a desk stores these three as they are.
 #[derive(Clone, Copy)]
 pub struct Table {
     pub n: usize,

@@ -1,7 +1,19 @@
 -- `bound::response_bound` meets its contract.
 use Rattle.search.specs.Searches.{table_of, all_of}
-use Rattle.bound.proofs.Asking.{own_fits, rows_asked, rows_answered}
+use Rattle.bound.proofs.Asking.{rows_fit, own_fits, rows_asked, rows_answered}
 use Rattle.bound.proofs.response_bound.Goals as goal
+
+pub unpack-a-requires : goal.unpack-a-requires
+unpack-a-requires c = (c.requires.few, λ j h. (c.requires.streams_fit j h).octets_most)
+
+pub invariant_of-rows : goal.invariant_of-rows
+invariant_of-rows c =
+    let a = c.args in
+    let s = a.stairs.now in
+    record {
+      fit = rows_fit a.rate (table_of s) (all_of s) a.streams.now a.own a.leave c.requires c.unpack-a.result
+          c.unpack-a.ensures;
+    }
 
 pub invariant_of-own : goal.invariant_of-own
 invariant_of-own c =

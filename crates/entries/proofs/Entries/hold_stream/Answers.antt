@@ -3,14 +3,20 @@
 use mathlib.Core.Path.{◌≡◌, subst}
 use mathlib.Core.Bool.{false}
 use Prim.Native.Nat.{ℕ}
+use native.Mathlib.Omega.{arith}
+use Rattle.meaning.proofs.InRange.{octet_limit_most}
 use Rattle.meaning.specs.Ranges.{stream_ranges, in_range}
 use Rattle.meaning.specs.declared.Refusal.TheVariants.{OutOfTurn, OutOfRange}
 use Rattle.ranges.specs.Numbers.{stream_of}
 use Rattle.ranges.proofs.Testing.{refused_out_of_range}
+use Rattle.entries.specs.Entries.{port_in}
 use Rattle.entries.proofs.Opened.{open_entries}
 use Rattle.entries.proofs.Answers.{handed_on_edits}
 use Rattle.entries.proofs.StreamLaws.{add_stream_out_of_turn, add_stream_out_of_range}
 use Rattle.entries.proofs.Entries.hold_stream.Goals as goal
+
+pub stream-requires : goal.stream-requires
+stream-requires c = omega (arith, octet_limit_most (port_in c.args.self.now), c.octet_limit.ensures)
 
 pub returns-in_err-in_turn : goal.returns-in_err-in_turn
 returns-in_err-in_turn c =
