@@ -1,4 +1,4 @@
-// What a call answers: a verdict or a figure, and document 01's number of a refusal ("What is refused").
+// Document 01's numbers of refusals ("What is refused"), and of what a call answers.
 #![tactic(auto)]
 
 ghost use Rattle.std.specs.Prelude.{◌≡◌};
@@ -6,20 +6,6 @@ ghost use Rattle.meaning.specs.Refusals.{number_of};
 ghost use Rattle.answers.specs.Answers.{answer_number};
 
 use meaning::Refusal;
-
-// What an edit answers, and what a question for rows answers beside its rows.
-#[derive(Clone, Copy)]
-pub enum Verdict {
-    Accepted,
-    Refused(Refusal),
-}
-
-// What a question for a number answers.
-#[derive(Clone, Copy)]
-pub enum Figure {
-    Is(u64),
-    Refused(Refusal),
-}
 
 // Document 01's number of a refusal.
 #[tactic(auto, unfolding(meaning::specs::Refusals::number_of))]

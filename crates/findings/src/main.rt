@@ -5,7 +5,7 @@
 ghost use Rattle.std.specs.Prelude.{◌≡◌, ℕ, ◌+◌, ◌<◌, ◌≤◌, length, take, drop, IfOk, IfSome, OnErr};
 ghost use Rattle.std.specs.Io.KnownBytes.{Consumes, IsAtEnd, ReadConsumes};
 ghost use Rattle.meaning.specs.Findings.{findings};
-ghost use Rattle.lines.specs.Texts.{Wrote};
+ghost use Rattle.room.specs.Writing.{Wrote};
 
 use anyhow::Context;
 use std::io;
@@ -31,6 +31,7 @@ fn fill<R: Read>(input: &mut R, buf: &mut [u8]) -> io::Result<usize>
         × Consumes (R.remaining input.old) (R.remaining input.new) (take n buf.new)) }
 {
     let mut n: usize = 0;
+    // Stays: no plainer, because a read says how far it came, and the library's read_to_end needs the heap.
     while n < buf.len() {
         let k = more(input, buf, n)?;
         if k == 0 {

@@ -2,7 +2,6 @@
 -- Assumes nothing.
 use mathlib.Core.Path.{◌≡◌, refl, sym, ap, subst, fun_ext, ◌∙◌}
 use mathlib.Core.Bool.{Bool, true, false, cond}
-use mathlib.Core.List.Memᴰ
 use mathlib.Core.List.{List}
 use mathlib.Core.Option as M
 use Prim.Native.Nat.{ℕ, ◌+◌, ◌≤◌, ◌<◌}
@@ -32,8 +31,7 @@ use Rattle.meaning.proofs.Windows.{all_at_most_cycle}
 use Rattle.table.specs.Lookup.{all_in, stairs_in, stairs_v}
 use Rattle.table.proofs.Demand.{all_is, rows_give_interference}
 use Rattle.table.proofs.Reached.{all_take, lent_v}
-use Rattle.ahead.specs.Unpacked.{StreamFits}
-use Rattle.bound.specs.Answers.{response_of, Asks}
+use Rattle.bound.specs.Answers.{response_of, StreamFits, Asks}
 use Rattle.bound.proofs.Others.{others_without}
 use Rattle.rows.specs.Rows.{no_stream}
 use Rattle.rows.proofs.Searching.{place_some, some_any}

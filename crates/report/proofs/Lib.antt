@@ -1,5 +1,5 @@
-pub mod Parts
-pub mod Rows
+pub mod Stairs
+pub mod Streams
 pub mod Sizes
 pub mod Whole
 pub mod Reported

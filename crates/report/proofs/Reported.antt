@@ -8,6 +8,7 @@ use Prim.Native.Nat.{ℕ, ◌+◌, ◌^◌, ◌≤◌, ◌<◌}
 use native.Mathlib.Omega.{arith}
 use lib.Dec.{lit<}
 use lib.ListN.{length, drop, length-append}
+use Rattle.std.specs.Prelude.{Ok, Err}
 use Rattle.meaning.specs.declared.Refusal.{Refusal}
 use Rattle.meaning.specs.declared.Refusal.TheVariants.{CutShort, UnknownTag, WrongLength, OutOfTurn, OutOfRange}
 use Rattle.meaning.specs.declared.Refusal.TheVariants.{Overlap, Full, IdHeld, NotHeld, NoFreeCell, NoRoom, Endless}
@@ -23,10 +24,10 @@ use Rattle.meaning.proofs.Accepted.{accepted_sound, refused_when}
 use Rattle.desk.specs.declared.Desk.{Desk}
 use Rattle.desk.specs.Desks.{filled_desk, desk_of, held}
 use Rattle.desk.proofs.Held.{held_of}
-use Rattle.reader.specs.declared.ReadAnswer.TheVariants as reads
+use Rattle.reader.specs.declared.RefusedAt.{RefusedAt}
 use Rattle.reader.specs.declared.ReadReply.{ReadReply}
 use Rattle.reader.specs.Reading.{read_reply}
-use Rattle.lines.specs.Texts.{Wrote}
+use Rattle.room.specs.Writing.{Wrote}
 use Rattle.report.proofs.Sizes.{lines_short}
 
 -- ---- its length
@@ -98,19 +99,16 @@ never_bare (going place octets (opened p ss js)) (opened p' ss' js') q = refl
 never_bare (stopped r place) e q = let z : refused_at r place ≡ read e = q in cc
 
 -- what the reader's answer tells of the plan
-pub told_read : (o : Outcome) (r : ReadReply) → r ≡ read_reply o → r.answer ≡ reads.Read
+pub told_read : (o : Outcome) (r : ReadReply) (u : Unit {0}) → r ≡ read_reply o → r.answer ≡ Ok u
     → (e : Plan) × (o ≡ read e) × (r.desk ≡ desk_of e)
 unfolding desk_read
-told_read (read e) r q a = (e, refl, ap (λ (x : ReadReply). x.desk) q)
-told_read (refused_at why place) r q a =
-    let b = ap (λ (x : ReadReply). x.answer) q in
-    let z : ◌≡◌ {A = ℕ} 0 1 = cc in
-    absurd (omega arith)
+told_read (read e) r u q a = (e, refl, ap (λ (x : ReadReply). x.desk) q)
+told_read (refused_at why place) r u q a = let b = ap (λ (x : ReadReply). x.answer) q in cc
 
-pub told_refused : (o : Outcome) (r : ReadReply) (why : Refusal) (place : ℕ) → r ≡ read_reply o
-    → r.answer ≡ reads.Refused why place → o ≡ refused_at why place
-told_refused (read e) r why place q a = let b = ap (λ (x : ReadReply). x.answer) q in cc
-told_refused (refused_at w p) r why place q a = let b = ap (λ (x : ReadReply). x.answer) q in cc
+pub told_refused : (o : Outcome) (r : ReadReply) (at : RefusedAt) → r ≡ read_reply o → r.answer ≡ Err at
+    → o ≡ refused_at at.why at.place
+told_refused (read e) r at q a = let b = ap (λ (x : ReadReply). x.answer) q in cc
+told_refused (refused_at why place) r at q a = let b = ap (λ (x : ReadReply). x.answer) q in cc
 
 -- the desk of a plan that was read is open, and its findings are those of the input
 pub read_desk : (input : List ℕ) (e : Plan) (d : Desk) → read_plan input ≡ read e → d ≡ desk_of e

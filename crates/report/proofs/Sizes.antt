@@ -36,7 +36,7 @@ use Rattle.meaning.proofs.Gates.{slots_rise, slots_below}
 use Rattle.meaning.proofs.Responses.{bound_iff, bound_at_most}
 use Rattle.meaning.proofs.Sounds.{gate_cycle, gate_chain}
 use Rattle.table.proofs.Demand.{stairs_few}
-use Rattle.report.proofs.Rows.{stair_line_length}
+use Rattle.report.proofs.Stairs.{stair_line_length}
 
 -- ---- digits and words
 

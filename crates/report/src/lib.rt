@@ -5,62 +5,56 @@ ghost use Rattle.std.specs.Prelude.{true, ◌≡◌, List, ℕ, ◌≤◌, lengt
 ghost use Rattle.laws.specs.Lists.{joined};
 ghost use Rattle.meaning.specs.Bytes.{read, refused_at};
 ghost use Rattle.meaning.specs.Findings.{stair_line, printed, findings};
-ghost use Rattle.table.specs.Lookup.{stairs_in};
+ghost use Rattle.table.specs.Lookup.{paired};
 ghost use Rattle.desk.specs.Desks.{held, Fit, streams_in};
-ghost use Rattle.lines.specs.Texts.{Wrote};
+ghost use Rattle.room.specs.Writing.{Wrote};
 ghost use Rattle.report.specs.Lines.{first_in, line_in};
 
 use desk::Desk;
 use lines::{put_blocked, put_refusal, put_stair, put_stream};
 use meaning::{Refusal, Stair};
-use reader::ReadAnswer;
+use table::Stairs;
 
-// The lines of the first n stairs, each into the rest of the room.
-fn put_stairs(out: &mut [u8], far: [u32; 993], tot: [u32; 993], n: usize) -> usize
-    requires { (n ≤ 993) × (length (joined stair_line (stairs_in far tot n)) ≤ length out.old) }
-    ensures { Wrote (joined stair_line (stairs_in far tot n)) result out.old out.new }
+// The lines of the stairs, each into the rest of the room.
+fn put_stairs(out: &mut [u8], stairs: &Stairs<'_>) -> usize
+    requires { length (joined stair_line (paired stairs.now.far.now stairs.now.tot.now)) ≤ length out.old }
+    ensures { Wrote (joined stair_line (paired stairs.now.far.now stairs.now.tot.now)) result out.old out.new }
 {
     let mut at: usize = 0;
-    let mut i: usize = 0;
-    while i < n {
+    for (far, total) in stairs.far.iter().zip(stairs.tot) {
         let x = Stair {
-            far: far[i],
-            total: tot[i],
+            far: *far,
+            total: *total,
         };
         at += put_stair(&mut out[at..], x);
-        i += 1;
     }
     at
 }
 
 // The lines of the streams held, by rising id, each into the rest of the room.
-fn put_streams(out: &mut [u8], d: Desk) -> usize
-    requires { Fit d × (d.opened ≡ true) × (length (joined (line_in d) (streams_in d)) ≤ length out.old) }
-    ensures { Wrote (joined (line_in d) (streams_in d)) result out.old out.new }
+fn put_streams(out: &mut [u8], d: &Desk) -> usize
+    requires { Fit d.now × (d.now.opened ≡ true)
+        × (length (joined (line_in d.now) (streams_in d.now)) ≤ length out.old) }
+    ensures { Wrote (joined (line_in d.now) (streams_in d.now)) result out.old out.new }
 {
-    let n = d.nstreams;
-    let streams = d.streams;
+    let streams = &d.streams[..d.nstreams];
     let mut at: usize = 0;
-    let mut k: usize = 0;
-    while k < n {
-        let j = streams[k];
-        let answer = questions::response(d, j.id as u64);
-        let figure = answer.figure;
-        at += put_stream(&mut out[at..], j.id, figure, j.deadline);
-        k += 1;
+    for j in streams {
+        let reply = questions::response(*d, j.id as u64);
+        at += put_stream(&mut out[at..], j.id, reply.answer, j.deadline);
     }
     at
 }
 
-// Line 1 of an open desk.
-fn put_first(out: &mut [u8], d: Desk) -> usize
-    requires { Fit d × (d.opened ≡ true) × (64 ≤ length out.old) }
-    ensures { Wrote (first_in d) result out.old out.new }
+// Line 1 of an open desk, which answers its runs.
+fn put_first(out: &mut [u8], d: &Desk) -> usize
+    requires { Fit d.now × (d.now.opened ≡ true) × (64 ≤ length out.old) }
+    ensures { Wrote (first_in d.now) result out.old out.new }
 {
-    let found = questions::runs(d);
-    let runs = found.runs;
-    let all = table::all_blocked(&d.tot, d.nstairs);
-    put_blocked(out, all, d.cycle, runs.n)
+    let found = questions::runs(*d);
+    let count = found.answer.map_or(0, |runs| runs.n);
+    let stairs = desk::stairs_of(d);
+    put_blocked(out, stairs.all_blocked(), d.cycle, count)
 }
 
 // The findings of an open desk: the first line, the stairs and the streams.
@@ -68,11 +62,9 @@ pub fn put_findings(out: &mut [u8], d: Desk) -> usize
     requires { Fit d × (d.opened ≡ true) × (32_768 ≤ length out.old) }
     ensures { Wrote (printed (read (held d))) result out.old out.new }
 {
-    let far = d.far;
-    let tot = d.tot;
-    let mut at = put_first(out, d);
-    at += put_stairs(&mut out[at..], far, tot, d.nstairs);
-    at + put_streams(&mut out[at..], d)
+    let mut at = put_first(out, &d);
+    at += put_stairs(&mut out[at..], &desk::stairs_of(&d));
+    at + put_streams(&mut out[at..], &d)
 }
 
 // The one line of a refused plan.
@@ -96,11 +88,9 @@ pub fn report(input: &[u8], out: &mut [u8]) -> usize
     ensures { Wrote (findings input.now) result out.old out.new }
 {
     let reply = reader::read(input);
-    let answer = reply.answer;
-    let d = reply.desk;
-    match answer {
-        ReadAnswer::Read => put_findings(out, d),
-        ReadAnswer::Refused { why, place } => put_refused(out, why, place),
+    match reply.answer {
+        Ok(()) => put_findings(out, reply.desk),
+        Err(refused) => put_refused(out, refused.why, refused.place),
     }
 }
 

@@ -1,55 +1,46 @@
 -- `report::put_stairs` meets its contract: each line fills the front of what those before it leave.
-use native.Mathlib.Omega.{arith}
 use borrow.Author.Rules.{rules}
+use Rattle.std.proofs.lemmas.Slice.Zip.{zip_turn, zip_end}
+use Rattle.std.proofs.lemmas.List.{length_push}
 use Rattle.meaning.specs.Findings.{stair_line}
-use Rattle.table.specs.Lookup.{stairs_in}
-use Rattle.report.proofs.Parts.{rest_fits, parts_start, parts_end}
-use Rattle.report.proofs.Rows.{stairs_length, stair_fits, stair_turn}
+use Rattle.table.specs.Lookup.{paired}
+use Rattle.room.proofs.Rooms.{rest_fits, fill_start}
+use Rattle.report.proofs.Stairs.{stair_fits, stair_turn, stairs_end}
 use Rattle.report.proofs.put_stairs.Goals as goal
 
-pub loop-i-init : goal.loop-i-init
-loop-i-init c =
-    let a = c.args in
-    (omega arith, search rules, search rules, parts_start stair_line a.out.now (stairs_in a.far a.tot a.n))
-
-pub slice_bounds-put_stair-count : goal.slice_bounds-put_stair-count
-slice_bounds-put_stair-count c = c.loop-i.invariant.3.within
-
-pub slice_bounds-put_stair-start : goal.slice_bounds-put_stair-start
-slice_bounds-put_stair-start c = c.loop-i.invariant.3.within
+pub loop-far-init : goal.loop-far-init
+loop-far-init c =
+    let s = c.args.stairs.now in
+    fill_start stair_line c.args.out.now (paired s.far.now s.tot.now)
 
 pub put_stair-at-requires : goal.put_stair-at-requires
 put_stair-at-requires c =
-    let a = c.args in
-    rest_fits c.loop-i.out c.loop-i.at _
-    (stair_fits a.far a.tot a.n c.requires.0 c.loop-i.invariant.1 c.loop-i.invariant.2 a.out.now c.requires.1
-    c.loop-i.out c.loop-i.at c.loop-i.i c.loop-i-test.true c.loop-i.invariant.3)
+    let s = c.args.stairs.now in
+    let now = c.loop-far in
+    let t =
+    zip_turn s.far.now s.tot.now now.yielded c.into_iter-far-iterator.result now.far-iterator c.next.new.self
+    c.next.result (search rules) (search rules) now.yielded_by (c.in-Some.far, c.in-Some.total) c.in-Some.is
+    c.next.ensures.steps in
+    rest_fits now.out now.at _
+    (stair_fits s.far.now s.tot.now c.args.out.now c.requires now.out now.at _ now.invariant
+    (record { far = c.in-Some.far.now; total = c.in-Some.total.now }) t.0 t.1 (t.2 0) (t.3 0))
 
-pub overflow_add-at : goal.overflow_add-at
-overflow_add-at c =
-    let a = c.args in
-    let next =
-    stair_turn a.far a.tot a.n c.requires.0 c.loop-i.invariant.1 c.loop-i.invariant.2 a.out.now c.requires.1
-    c.loop-i.out c.loop-i.at c.loop-i.i c.loop-i-test.true
-    c.loop-i.invariant.3 _ _ c.put_stair-at.ensures in
-    omega arith
-
-pub loop-i-preserved : goal.loop-i-preserved
-loop-i-preserved c =
-    let a = c.args in
-    let more = c.loop-i-test.true in (
-      omega (arith, more),
-      c.loop-i.invariant.1,
-      c.loop-i.invariant.2,
-      stair_turn a.far a.tot a.n c.requires.0 c.loop-i.invariant.1 c.loop-i.invariant.2 a.out.now c.requires.1
-          c.loop-i.out c.loop-i.at c.loop-i.i more
-          c.loop-i.invariant.3 _ _ c.put_stair-at.ensures,
-    )
+pub loop-far-preserved : goal.loop-far-preserved
+loop-far-preserved c =
+    let s = c.args.stairs.now in
+    let now = c.loop-far in
+    let t =
+    zip_turn s.far.now s.tot.now now.yielded c.into_iter-far-iterator.result now.far-iterator c.next.new.self
+    c.next.result (search rules) (search rules) now.yielded_by (c.in-Some.far, c.in-Some.total) c.in-Some.is
+    c.next.ensures.steps in
+    rw (length_push now.yielded (c.in-Some.far, c.in-Some.total))
+    (stair_turn s.far.now s.tot.now c.args.out.now c.requires now.out now.at _ now.invariant
+    (record { far = c.in-Some.far.now; total = c.in-Some.total.now }) t.0 t.1 (t.2 0) (t.3 0) _ _ c.put_stair-at.ensures)
 
 pub returns : goal.returns
 returns c =
-    let a = c.args in
-    let inv = c.loop-i.invariant in
-    let all = stairs_length a.far a.tot a.n (omega (arith, inv.1)) (omega (arith, inv.2)) in
-    parts_end stair_line a.out.now (stairs_in a.far a.tot a.n) c.loop-i.out c.loop-i.at c.loop-i.i
-    (omega (arith, all)) inv.3
+    let s = c.args.stairs.now in
+    let now = c.loop-far in
+    stairs_end s.far.now s.tot.now c.args.out.now c.requires now.out now.at _ now.invariant
+    (zip_end s.far.now s.tot.now now.yielded c.into_iter-far-iterator.result now.far-iterator c.next.new.self
+    c.next.result (search rules) (search rules) now.yielded_by c.in-None.is c.next.ensures.steps)

@@ -1,16 +1,10 @@
 -- `report::put_stairs` meets its contract: each line fills the front of what those before it leave.
-use mathlib.Core.Path.{◌≡◌}
-use Prim.Native.Nat.{◌-◌, ◌≤◌}
 use lib.ListN.{length}
 use Rattle.meaning.specs.Findings.{stair_line}
-use Rattle.table.specs.Lookup.{stairs_in}
-use Rattle.report.proofs.Parts.{Parts}
+use Rattle.table.specs.Lookup.{paired}
+use Rattle.room.proofs.Rooms.{Filled}
 use Rattle.report.proofs.put_stairs.Given as goal
 
-abbrev pub invariant-loop-i : goal.invariant-loop-i
-invariant-loop-i l =
-    (l.i ≤ l.n) × (length l.far ≡ 993) × (length l.tot ≡ 993)
-    × Parts stair_line l.initial.out (stairs_in l.far l.tot l.n) l.out l.at l.i
-
-abbrev pub decreases-loop-i : goal.decreases-loop-i
-decreases-loop-i l = l.n - l.i
+abbrev pub invariant-loop-far : goal.invariant-loop-far
+invariant-loop-far l =
+    Filled stair_line l.initial.out (paired l.stairs.far.now l.stairs.tot.now) l.out l.at (length l.yielded)

@@ -15,8 +15,7 @@ pub returns : goal.returns
 returns c =
     let d = c.args.d in
     let rows = c.unwrap_or-found.ensures ∙ ap (result_unwrap_or c.stairs-answer.result.answer) (sym table_none) in
-    let number = c.number_of_answer.ensures in
-    (
+    let number = c.number_of_answer.ensures in (
       (λ i. record { number = number i; count = (rows i).n; far = (rows i).far; tot = (rows i).tot; desk = d })
           ∙ given numbered_stairs d c.requires (ask_stairs (held d)) _ _ c.stairs-answer.ensures.0 refl,
       c.requires,

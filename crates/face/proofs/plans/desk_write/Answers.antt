@@ -1,5 +1,5 @@
 -- `face::plans::desk_write` meets its contract.
-use mathlib.Core.Path.{refl, ap, ◌∙◌}
+use mathlib.Core.Path.{refl}
 use Rattle.meaning.specs.Bytes.{write_plan, written}
 use Rattle.desk.specs.Desks.{held}
 use Rattle.face.specs.Told.{numbered_write}
@@ -12,8 +12,7 @@ write-answer-requires c = c.requires
 pub returns : goal.returns
 returns c =
     let d = c.args.d in
-    let (same, room, fit) = c.write-answer.ensures in
-    (
+    let (same, room, fit) = c.write-answer.ensures in (
       rw (c.number_of_answer.ensures, c.unwrap_or.ensures, counted c.write-answer.result.answer)
           (given numbered_write d c.requires (written (write_plan c.args.room.now (held d))) _ _ same refl),
       room,

@@ -1,10 +1,6 @@
 -- `questions::responses::judged` meets its contract: each answer is the meaning's, by the tests that led to it.
 use mathlib.Core.Path.{◌≡◌, ap, ◌∙◌}
-use mathlib.Core.Bool.{true}
-use Prim.Native.Nat.{ℕ, ◌<◌}
-use native.Mathlib.Omega.{arith}
 use lib.ListN.{length}
-use Rattle.std.specs.Prelude.{Option, Some}
 use Rattle.std.specs.List.{position}
 use Rattle.meaning.specs.declared.Refusal.TheVariants.{OutOfTurn, NotHeld}
 use Rattle.table.specs.Lookup.{all_in, stairs_v}
