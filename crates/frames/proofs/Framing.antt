@@ -20,7 +20,7 @@ use Rattle.meaning.proofs.Demands.{wait_cold, wait_warm}
 use Rattle.arrivals.specs.Rows.{stepped}
 use Rattle.search.specs.Asked.{Asked, OwnFits, own_stream, row_demand}
 use Rattle.search.specs.Searches.{Closes}
-use Rattle.frames.specs.Windows.{BesideIn, WorstFor}
+use Rattle.frames.specs.Windows.{BesideIn}
 use Rattle.frames.proofs.RowStreams.{most_own, early_own, wait_rows}
 
 -- ---- the numbers that go with a frame
@@ -215,10 +215,3 @@ module _ (v : ℕ → ℕ) (v_grows : Mono v) (o : Asked) (fits : OwnFits o) (pe
         best_is = λ s. eb ∙ (frame_next s k base come later f h w lw best (done.best_is s)).0;
         under = λ s. rw ew (frame_next s k base come later f h w lw best (done.best_is s)).1;
       }
-
-  -- all are done
-  pub frames_end : (k w best : ℕ) → k ≡ frames → FramesDone v o per jit cost n frames k w best
-      → WorstFor v o per jit cost n frames best
-  frames_end k w best e done s =
-      done.best_is s
-      ∙ ap (worst_of s.beside.rate v L s.beside.rest s.beside.own s.b (most_in s.beside.own 0)) e

@@ -71,12 +71,14 @@ module _ (plan : List ℕ) (at : ℕ) (es : Entries) (h : at < length plan) (f :
     -- its edit is refused
     pub walks_refused : (why : Refusal) (made : Entries)
         → Edits es (edit (as_told g) (held_in es)) (Err why) made
-        → Walks (held_in es) (step (going at (drop at plan) (held_in es))) (Err (record { why = why; place = at })) made
+        → Walks (held_in es) (step (going at (drop at plan) (held_in es))) (Err (record { why = why; place = at }))
+        made
     unfolding after_front after_edit edited walked_to walked_with
     walks_refused why made m = rw (looked (accepted (as_told g)) here) (go (edit (as_told g) (held_in es)) m)
       where
         go : (a : Answer Plan) → Edits es a (Err why) made
-            → Walks (held_in es) (after_edit at (drop at plan) (as_told g) a) (Err (record { why = why; place = at })) made
+            → Walks (held_in es) (after_edit at (drop at plan) (as_told g) a) (Err (record { why = why; place = at }))
+            made
         go (accepted x) m = let z = m.answer in cc
         go (refused r) m =
             let q = m.answer in record { answer = cc; entries = m.entries; fit = m.fit }
@@ -165,7 +167,8 @@ module _ (plan : List ℕ) (at : ℕ) (e : Plan) (reads : ReadsOn plan at e) whe
       ∙ ap ended (walk_enough n (suc n) at (drop at plan) e short (omega arith))
       ∙ ap (λ (s : Reading). ended (walk n s)) q
 
-  pub read_turn : (on : ℕ) (x : Plan) → step (going at (drop at plan) e) ≡ going on (drop on plan) x → ReadsOn plan on x
+  pub read_turn : (on : ℕ) (x : Plan) → step (going at (drop at plan) e) ≡ going on (drop on plan) x
+      → ReadsOn plan on x
   read_turn on x q = read_step _ q
 
   read_stops : (r : Refusal) → step (going at (drop at plan) e) ≡ stopped r at → read_plan plan ≡ refused_at r at

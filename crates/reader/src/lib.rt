@@ -98,8 +98,8 @@ fn walk(plan: &[u8], e: &mut Entries) -> Result<(), RefusedAt>
     Ok(())
 }
 
-// The desk of a plan, its stairs built once, for the slots then held; or why it is refused, the place of the field that
-// is, and the bare desk.
+// The desk of a plan, its stairs built once, for the slots then held; or the refusal, the place of the field that is
+// refused, and the bare desk.
 pub fn read(plan: &[u8]) -> ReadReply
     ensures { (result ≡ read_reply (read_plan plan.now)) × Fit result.desk }
 {

@@ -17,7 +17,8 @@ octet at w i xs h = get_or-take (at + w - at) (drop at xs) i 0 (omega arith) ∙
 -- up to four octets make a number below 2 ^ 32
 fits : (n x i : ℕ) → n < 256 ^ i → x < 256 → i < 4 → n * 256 + x < 4_294_967_296
 fits n x i h b l =
-    let most : 256 ^ suc i ≤ 4_294_967_296 = pow-le-pow_right {n = 256} (omega arith) {i = suc i} {j = 4} (omega arith) in
+    let most : 256 ^ suc i ≤ 4_294_967_296 =
+    pow-le-pow_right {n = 256} (omega arith) {i = suc i} {j = 4} (omega arith) in
     let next : 256 ^ suc i ≡ 256 ^ i * 256 = pow-suc 256 i in
     omega arith
 
@@ -35,7 +36,8 @@ overflow_add-n g c =
     let l = c.loop-octet in
     let i = within c.args.at g.row.N l.octet-index c.args.plan.now c.requires.1 c.loop-octet-test.true in
     let here = octet c.args.at g.row.N l.octet-index c.args.plan.now i in
-    let small : c.from.result < 256 = omega (arith, c.from.ensures, here, c.type_inv.plan (c.args.at + l.octet-index)) in
+    let small : c.from.result < 256 =
+    omega (arith, c.from.ensures, here, c.type_inv.plan (c.args.at + l.octet-index)) in
     omega (arith, fits l.n c.from.result l.octet-index l.invariant.1 small (omega (arith, i, c.requires.0)))
 
 pub loop-octet-preserved : goal.loop-octet-preserved
@@ -43,6 +45,7 @@ loop-octet-preserved g c =
     let l = c.loop-octet in
     let i = within c.args.at g.row.N l.octet-index c.args.plan.now c.requires.1 c.loop-octet-test.true in
     let here = octet c.args.at g.row.N l.octet-index c.args.plan.now i in
-    let small : c.from.result < 256 = omega (arith, c.from.ensures, here, c.type_inv.plan (c.args.at + l.octet-index)) in
+    let small : c.from.result < 256 =
+    omega (arith, c.from.ensures, here, c.type_inv.plan (c.args.at + l.octet-index)) in
     number_turn c.args.at l.octet-index l.n c.args.plan.now c.from.result (omega (arith, i, c.requires.1))
     (c.from.ensures ∙ here) small l.invariant

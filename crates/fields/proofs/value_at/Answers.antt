@@ -6,7 +6,10 @@ use Rattle.fields.proofs.value_at.Goals as goal
 pub returns-then-number-octets : goal.returns-then-number-octets
 returns-then-number-octets c =
     let a = c.args in
-    record { is = value_wrong a.plan.now a.at a.octets (λ e. c.if-number-octets.true (c.number.ensures ∙ e)); whole = tt }
+    record {
+      is = value_wrong a.plan.now a.at a.octets (λ e. c.if-number-octets.true (c.number.ensures ∙ e));
+      whole = tt;
+    }
 
 pub returns-then-plan-at : goal.returns-then-plan-at
 returns-then-plan-at c =

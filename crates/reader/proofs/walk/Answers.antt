@@ -22,7 +22,8 @@ returns-in_err-at c =
 
 pub loop-at-smaller : goal.loop-at-smaller
 loop-at-smaller c =
-    let on = went_on c.args.plan.now c.loop-at.at c.loop-at.e c.walk_on.new.e c.loop-at-test.true _ c.in_ok-at.ensures.0 in
+    let l = c.loop-at in
+    let on = went_on c.args.plan.now l.at l.e c.walk_on.new.e c.loop-at-test.true _ c.in_ok-at.ensures.0 in
     omega (arith, on.0, c.loop-at-test.true)
 
 pub loop-at-preserved : goal.loop-at-preserved

@@ -20,7 +20,9 @@ put-at-requires g c =
     let l = c.loop-x in
     let x = c.x-item.result in
     let all = all_fit g.T.AsField.as_field _ g.met.T.AsField.long c.args.items.now _ c.requires.room in
-    let next = part_fits _ c.args.out.now c.args.items.now all l.out l.at l.x-index x c.x-item.is c.loop-x-test.true l.invariant in (
+    let next =
+    part_fits _ c.args.out.now c.args.items.now all l.out l.at l.x-index x c.x-item.is c.loop-x-test.true
+    l.invariant in (
       rest_fits l.out l.at _ (omega (arith, field_length_lem (g.T.AsField.as_field x), g.met.T.AsField.long x)),
       c.requires.fit x (rw (← c.x-item.is) at (mem_get c.args.items.now l.x-index x c.loop-x-test.true)),
     )
