@@ -13,7 +13,6 @@ use desk::Desk;
 use reader::ReadReply;
 
 // The reply of the reader, with its answer as two numbers.
-#[tactic(auto, unfolding(reader::specs::Reading::read_number, reader::specs::Reading::read_places, crate::specs::Told::the_one))]
 fn told_read(reply: ReadReply) -> PlanRead
     ensures { result ≡ numbered_read reply }
 {

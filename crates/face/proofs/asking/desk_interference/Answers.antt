@@ -12,5 +12,7 @@ interference-requires c = c.requires
 pub returns : goal.returns
 returns c =
     let d = c.args.d in
-    let told = c.told_figure.ensures in
-    (told ∙ given numbered_figure d c.requires (ask_interference c.args.t (held c.args.d)) _ _ c.interference.ensures.0 refl, rw told c.requires)
+    let told = c.told_figure.ensures in (
+      told ∙ given numbered_figure d c.requires (ask_interference c.args.t (held d)) _ _ c.interference.ensures.0 refl,
+      rw told c.requires,
+    )

@@ -12,5 +12,7 @@ response-requires c = c.requires
 pub returns : goal.returns
 returns c =
     let d = c.args.d in
-    let told = c.told_figure.ensures in
-    (told ∙ given numbered_figure d c.requires (ask_response c.args.id (held c.args.d)) _ _ c.response.ensures.0 refl, rw told c.requires)
+    let told = c.told_figure.ensures in (
+      told ∙ given numbered_figure d c.requires (ask_response c.args.id (held d)) _ _ c.response.ensures.0 refl,
+      rw told c.requires,
+    )
