@@ -44,7 +44,7 @@ fn show_f(rt: &impl Print) -> io::Result<()> {
         guard: 1_000,
         header: 500,
     };
-    let slots = [
+    let slots = &[
         Slot {
             start: 10_000,
             end: 14_000,
@@ -58,13 +58,7 @@ fn show_f(rt: &impl Print) -> io::Result<()> {
             end: 68_500,
         },
     ];
-    show(
-        rt,
-        &Slots {
-            gate,
-            slots: &slots,
-        },
-    )
+    show(rt, &Slots { gate, slots })
 }
 
 // Document 000, Table I: a slot's guard of 1 stands before it, so that its runs are the table's slots.
@@ -74,7 +68,7 @@ fn show_one(rt: &impl Print) -> io::Result<()> {
         guard: 1,
         header: 0,
     };
-    let slots = [
+    let slots = &[
         Slot {
             start: 3_001,
             end: 6_000,
@@ -88,13 +82,7 @@ fn show_one(rt: &impl Print) -> io::Result<()> {
             end: 18_000,
         },
     ];
-    show(
-        rt,
-        &Slots {
-            gate,
-            slots: &slots,
-        },
-    )
+    show(rt, &Slots { gate, slots })
 }
 
 fn main(rt: HostRuntime) -> io::Result<()> {
