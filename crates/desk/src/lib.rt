@@ -14,6 +14,7 @@ pub use streams::{add_stream, remove_stream};
 
 // One output port: its numbers, its slots by rising start, its streams by rising id, and its stairs as a row of
 // distances and a row of totals. Free places are zero, and a bare desk is all zero.
+// Stays: the C interface hands over just this struct, flat, with a flag and counts, so `Fit` is a clause of each call.
 #[repr(C)]
 #[derive(Clone, Copy)]
 pub struct Desk {

@@ -10,6 +10,8 @@ use meaning::{Slot, Stream};
 
 // What one output port has been given: its numbers, its slots by rising start and its streams by rising id. Free places
 // are zero, and where no port is open all is zero.
+// Stays: the desk of the C interface has these fields; and `FitEntries` is no plainer inside, since it speaks of the
+// whole struct and would need a second one around it.
 #[derive(Clone, Copy)]
 pub struct Entries {
     pub opened: bool,

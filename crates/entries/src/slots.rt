@@ -1,4 +1,6 @@
 // A slot more or less (document 01, "Adding a slot: 4, 5, 7, 6, 10", "Removing: 4, 9").
+// Stays: no plainer as one with the edits of streams: each reads other fields of one flat struct, and a slot has
+// checks of its own; what they share is in `rows`.
 ghost use Rattle.std.specs.Prelude.{◌≡◌, true};
 ghost use Rattle.meaning.specs.Ranges.{slot_ranges, in_range};
 ghost use Rattle.meaning.specs.Calls.{add_slot, remove_slot};

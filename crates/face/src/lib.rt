@@ -16,6 +16,7 @@ pub use plans::{desk_read, desk_write};
 
 // In every reply `number` is document 01's number of the refusal, and 0 where the call is accepted. The other numbers
 // are 0 where there is nothing to tell.
+// Stays: the C interface has numbers and counts in these six, and can have no Result, no Option and no slice.
 
 #[repr(C)]
 #[derive(Clone, Copy)]

@@ -10,6 +10,7 @@ ghost use Rattle.gate.specs.Walks.{hang_ends, run_with, walked, WalkFits};
 use meaning::{Gate, Run, Slot};
 
 // A row of runs: the first n places hold them, the others are empty.
+// Stays: fixed memory, no heap; and C is promised zeros in the empty places.
 #[derive(Clone, Copy)]
 pub struct RunRow {
     pub n: usize,
