@@ -39,7 +39,7 @@ pub fn wire_of(rate: u32, octets: u32) -> u32
     requires { octets ≤ 2_000 }
     ensures { (result ≡ wire_time rate octets) × (result ≤ 2_000_000) }
 {
-    wire::wire_time(rate as u64, octets).unwrap_or(0) as u32
+    wire::wire_time(u64::from(rate), octets).unwrap_or(0) as u32
 }
 
 // The streams beside own, all but the one at place leave, as rows of numbers: those of equal or higher priority, and of

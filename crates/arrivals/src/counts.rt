@@ -74,7 +74,7 @@ impl Counts {
             *next = step(x, *next, rows.per[i]);
             least = least.min(*next);
         }
-        self.load += load as u64;
+        self.load += u64::from(load);
         self.least = least;
     }
 

@@ -25,7 +25,7 @@ pub fn frames_wire(frames: u32, wire: u32) -> u64
     requires { (frames ≤ 30_000) × (wire ≤ 2_000_000) }
     ensures { (result ≡ frames * wire) × (result ≤ 60_000_000_000) }
 {
-    frames as u64 * wire as u64
+    u64::from(frames) * u64::from(wire)
 }
 
 // 2^45 by the period, rounded down.
@@ -33,7 +33,7 @@ pub fn inverse(period: u32) -> u32
     requires { 10_000 ≤ period }
     ensures { result * period ≤ 35_184_372_088_832 }
 {
-    (35_184_372_088_832 / period as u64) as u32
+    (35_184_372_088_832 / u64::from(period)) as u32
 }
 
 // Frames in a closed stretch of x ns, by a product with the inverse of the period in place of a division: never more
@@ -43,7 +43,7 @@ pub fn frames_at_least(x: u32, jitter: u32, inv: u32) -> u32
     ensures { ((period : ℕ) → 0 < period → inv * period ≤ 35_184_372_088_832
         → result ≤ most_in (row_stream period jitter) x) × (result ≤ 30_000) }
 {
-    ((x + jitter) as u64 * inv as u64 / 35_184_372_088_832) as u32 + 1
+    (u64::from(x + jitter) * u64::from(inv) / 35_184_372_088_832) as u32 + 1
 }
 
 // When one frame more than in x ns can come.

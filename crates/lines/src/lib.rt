@@ -19,7 +19,7 @@ fn put_of(out: &mut [u8], word: &[u8], n: u64, whole: u32) -> usize
         × (result ≡ length word.now + length (decimal n) + 4 + length (decimal whole)) }
 {
     let at = put_told(out, word, n);
-    at + put_told(&mut out[at..], b" of ", whole as u64)
+    at + put_told(&mut out[at..], b" of ", u64::from(whole))
 }
 
 // A line's last word and number, and its end.
@@ -37,7 +37,7 @@ pub fn put_blocked(out: &mut [u8], all: u32, cycle: u32, runs: usize) -> usize
     requires { 17 + length (decimal all) + length (decimal cycle) + length (decimal runs) ≤ length out.old }
     ensures { Wrote (blocked_line all cycle runs) result out.old out.new }
 {
-    let at = put_of(out, b"blocked ", all as u64, cycle);
+    let at = put_of(out, b"blocked ", u64::from(all), cycle);
     at + put_last(&mut out[at..], b" in ", runs as u64)
 }
 
@@ -46,8 +46,8 @@ pub fn put_stair(out: &mut [u8], x: Stair) -> usize
     requires { 8 + length (decimal x.far) + length (decimal x.total) ≤ length out.old }
     ensures { Wrote (stair_line x) result out.old out.new }
 {
-    let at = put_told(out, b"stair ", x.far as u64);
-    at + put_last(&mut out[at..], b" ", x.total as u64)
+    let at = put_told(out, b"stair ", u64::from(x.far));
+    at + put_last(&mut out[at..], b" ", u64::from(x.total))
 }
 
 // The words of a stream's verdict: a bound, a bound over the deadline, or none.
@@ -58,7 +58,7 @@ fn put_verdict(out: &mut [u8], bound: Result<u64, Refusal>, deadline: u32) -> us
     match bound {
         Ok(bound) => put_of(out, b" bound ", bound, deadline),
         Err(why) => match why {
-            Refusal::Late { bound } => put_of(out, b" late ", bound as u64, deadline),
+            Refusal::Late { bound } => put_of(out, b" late ", u64::from(bound), deadline),
             _ => put(out, b" endless"),
         },
     }
@@ -69,7 +69,7 @@ pub fn put_stream(out: &mut [u8], id: u32, bound: Result<u64, Refusal>, deadline
     requires { 8 + length (decimal id) + length (figure_words deadline bound) ≤ length out.old }
     ensures { Wrote (figure_line id deadline bound) result out.old out.new }
 {
-    let mut at = put_told(out, b"stream ", id as u64);
+    let mut at = put_told(out, b"stream ", u64::from(id));
     at += put_verdict(&mut out[at..], bound, deadline);
     at + put(&mut out[at..], b"\n")
 }

@@ -40,7 +40,7 @@ fn put_streams(out: &mut [u8], d: &Desk) -> usize
     let streams = &d.streams[..d.nstreams];
     let mut at: usize = 0;
     for j in streams {
-        let reply = questions::response(*d, j.id as u64);
+        let reply = questions::response(*d, u64::from(j.id));
         at += put_stream(&mut out[at..], j.id, reply.answer, j.deadline);
     }
     at

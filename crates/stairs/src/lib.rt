@@ -24,7 +24,7 @@ fn leaf(far: u32, total: u32, i: usize) -> u64
     requires { (total ≤ 134_217_727) × (i < 32) }
     ensures { result ≡ key_of far total * 32 + i }
 {
-    far as u64 * 4_294_967_296 + (134_217_727 - total as u64) * 32 + i as u64
+    u64::from(far) * 4_294_967_296 + (134_217_727 - u64::from(total)) * 32 + i as u64
 }
 
 // The distance of the pair with this leaf.

@@ -43,7 +43,7 @@ impl<'a> Stairs<'a> {
     {
         let u = t % self.cycle;
         let reached = self.far.partition_point(|d| *d <= u);
-        let rest = all_blocked(&self.tot[..reached]) as u64;
-        (t / self.cycle) as u64 * self.all_blocked() as u64 + rest
+        let rest = u64::from(all_blocked(&self.tot[..reached]));
+        u64::from(t / self.cycle) * u64::from(self.all_blocked()) + rest
     }
 }

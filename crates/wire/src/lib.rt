@@ -33,5 +33,5 @@ pub fn wire_time(rate: u64, octets: u32) -> Result<u64, UnknownRate>
     ensures { result ≡ timed rate (wire_time rate octets) }
 {
     let ten = ten_octets(rate)?;
-    Ok(((octets as u64 + EXTRA) * ten).div_ceil(10))
+    Ok(((u64::from(octets) + EXTRA) * ten).div_ceil(10))
 }

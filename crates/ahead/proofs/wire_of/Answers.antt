@@ -16,7 +16,8 @@ answered : (c : After-unwrap_or)
 answered c =
     let a = c.args in
     let e : c.unwrap_or.result ≡ wire_time a.rate a.octets =
-    c.unwrap_or.ensures ∙ ap (λ r. result_unwrap_or r 0) c.wire_time.ensures ∙ wire_read a.rate a.octets in
+    c.unwrap_or.ensures ∙ ap (λ r. result_unwrap_or r 0) (rw c.from.ensures at c.wire_time.ensures)
+    ∙ wire_read a.rate a.octets in
     (e, omega (arith, wire_fits a.rate a.octets c.requires))
 
 pub overflow_cast-result : goal.overflow_cast-result

@@ -15,4 +15,5 @@ product c =
 pub returns : goal.returns
 returns c =
     let a = c.args in
-    (λ t pos h. omega (arith, frames_under a.x t a.jitter a.inv pos h), omega (arith, product c))
+    rw (c.from.ensures, c.from-2.ensures)
+    (λ t pos h. omega (arith, frames_under a.x t a.jitter a.inv pos h), omega (arith, product c.before.before))

@@ -7,4 +7,4 @@ pub returns : goal.returns
 unfolding blocked_line told newline octets_in
 returns c =
     let a = c.args in
-    wrote_last (told " in " a.runs) newline c.put_of-at.ensures.0 c.put_last.ensures.0
+    wrote_last (told " in " a.runs) newline (rw c.from.ensures at c.put_of-at.ensures.0) c.put_last.ensures.0

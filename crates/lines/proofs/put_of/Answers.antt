@@ -7,4 +7,5 @@ use Rattle.lines.proofs.put_of.Goals as goal
 pub returns : goal.returns
 unfolding told octets_in
 returns c =
-    (wrote_next c.put_told-at.ensures.0 c.put_told.ensures.0, omega arith)
+    let whole = rw c.from.ensures at c.put_told.ensures in
+    (wrote_next c.put_told-at.ensures.0 whole.0, omega (arith, whole.1))

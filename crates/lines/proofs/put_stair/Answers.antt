@@ -7,4 +7,5 @@ pub returns : goal.returns
 unfolding stair_line told newline octets_in
 returns c =
     let a = c.args in
-    wrote_last (told " " a.x.total) newline c.put_told-at.ensures.0 c.put_last.ensures.0
+    wrote_last (told " " a.x.total) newline (rw c.from.ensures at c.put_told-at.ensures.0)
+    (rw c.from-2.ensures at c.put_last.ensures.0)

@@ -7,4 +7,4 @@ use Rattle.lines.proofs.put_stream.Goals as goal
 pub returns : goal.returns
 unfolding figure_line told newline octets_in
 returns c =
-    wrote_next (wrote_next c.put_told-at.ensures.0 c.put_verdict-at.ensures) c.put.ensures
+    wrote_next (wrote_next (rw c.from.ensures at c.put_told-at.ensures.0) c.put_verdict-at.ensures) c.put.ensures

@@ -14,14 +14,15 @@ put_of-requires c =
 pub put_of-requires-in-Late : goal.put_of-requires-in-Late
 put_of-requires-in-Late c =
     let a = c.args in
-    omega (arith, late_length a.deadline a.bound c.in-Err.why c.in-Late.bound c.in-Err.is c.in-Late.is)
+    rw c.from.ensures
+    (omega (arith, late_length a.deadline a.bound c.in-Err.why c.in-Late.bound c.in-Err.is c.in-Late.is))
 
 pub returns-in-Late : goal.returns-in-Late
 unfolding told octets_in
 returns-in-Late c =
     let a = c.args in
     rw (late_words a.deadline a.bound c.in-Err.why c.in-Late.bound c.in-Err.is c.in-Late.is)
-    c.put_of-in-Late.ensures.0
+    (rw c.from.ensures at c.put_of-in-Late.ensures.0)
 
 pub put-requires : goal.put-requires
 put-requires c =

@@ -4,12 +4,15 @@ use Rattle.std.proofs.lemmas.Result.{err_from_is_err_and}
 use Rattle.wire.proofs.Rates.{product_fits, wire_is, unknown_time}
 use Rattle.wire.proofs.wire_time.Goals as goal
 
-pub overflow_mul-octets : goal.overflow_mul-octets
-overflow_mul-octets c =
-    omega (arith, product_fits c.args.rate c.args.octets c.in_ok-ten.ten (omega arith) c.in_ok-ten.ensures)
+pub overflow_mul-from : goal.overflow_mul-from
+overflow_mul-from c =
+    let fits = product_fits c.args.rate c.args.octets c.in_ok-ten.ten (omega arith) c.in_ok-ten.ensures in
+    rw c.from.ensures (omega (arith, fits))
 
 pub returns : goal.returns
-returns c = rw c.div_ceil.ensures (wire_is c.args.rate c.args.octets c.in_ok-ten.ten c.in_ok-ten.ensures)
+returns c =
+    rw (c.div_ceil.ensures, c.from.ensures)
+    (wire_is c.args.rate c.args.octets c.in_ok-ten.ten c.in_ok-ten.ensures)
 
 pub returns-in_err-ten : goal.returns-in_err-ten
 returns-in_err-ten c =

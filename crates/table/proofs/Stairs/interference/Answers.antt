@@ -14,5 +14,6 @@ returns c =
     let point =
     IsPartitionPoint-from_clause (λ d. leb d u) _ _ p.ensures.partitioned (reached_first s.far.now u s.fits.far_rises)
     (λ a r q k. search rules) in
-    answer_is s.cycle s.far.now s.tot.now c.args.t s.fits p.result c.all_blocked.result c.all_blocked-rest.result
-    p.ensures.bound point c.all_blocked.ensures c.all_blocked-rest.ensures
+    rw (c.from.ensures, c.from-2.ensures, c.from-rest.ensures)
+    (answer_is s.cycle s.far.now s.tot.now c.args.t s.fits p.result c.all_blocked-2.result c.all_blocked.result
+    p.ensures.bound point c.all_blocked-2.ensures c.all_blocked.ensures)

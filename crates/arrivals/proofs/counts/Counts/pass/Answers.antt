@@ -38,5 +38,6 @@ returns c =
     let lent = length-take rows.n seen.next in
     let as_many : length l.next-items ≡ rows.n = omega (arith, rows.fit.few) in
     let all : l.i ≡ rows.n = omega (arith, rows.fit.few) in
-    pass_ends rows.per rows.jit rows.cost rows.n rows.fit seen c.args.x c.requires.1 l.next-items l.load l.least
-    seen.shortest as_many (rw all at l.invariant) c.requires.2 c.requires.0
+    rw c.from.ensures
+    (pass_ends rows.per rows.jit rows.cost rows.n rows.fit seen c.args.x c.requires.1 l.next-items l.load l.least
+    seen.shortest as_many (rw all at l.invariant) c.requires.2 c.requires.0)
