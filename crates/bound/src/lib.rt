@@ -14,7 +14,7 @@ use arrivals::Rows;
 use enough::enough;
 use frames::worst;
 use meaning::Stream;
-use search::{HORIZON, Own, window};
+use search::{Demand, HORIZON, Own};
 use table::Stairs;
 
 // The bound of own beside streams that are unpacked: from its busy window, the frames that are enough, and the largest
@@ -28,10 +28,14 @@ pub fn rows_bound(rows: &Rows, stairs: &Stairs, own: &Own) -> Option<u32>
     if HORIZON < stairs.interference(0) {
         return None;
     }
-    let b = window(rows, stairs, own)?;
+    let demand = Demand {
+        rows,
+        stairs: *stairs,
+    };
+    let b = demand.window(own)?;
     let all = own.frames_in(b) + 1 - own.frames_in(0);
-    let few = enough(rows, stairs, own, all);
-    Some(worst(rows, stairs, own, few))
+    let few = enough(&demand, own, all);
+    Some(worst(&demand, own, few))
 }
 
 // The response bound of own beside streams, all but the one at place leave. None where own is endless.

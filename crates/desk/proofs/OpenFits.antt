@@ -1,4 +1,4 @@
--- What a fit desk gives where it is open: what it holds, and that gate numbers, slots and stairs may be handed on.
+-- What a fit desk gives where it is open: what it holds, and that its stairs may be read.
 -- Assumes nothing.
 use mathlib.Core.Path.{◌≡◌, sym, ap, subst, ◌∙◌}
 use mathlib.Core.Bool.{true}
@@ -18,13 +18,11 @@ use Rattle.meaning.specs.Promises.{Chain, Sound}
 use Rattle.meaning.proofs.Sounds.{gate_cycle, gate_chain}
 use Rattle.meaning.proofs.ChainFree.{runs_few}
 use Rattle.meaning.proofs.Gates.{slots_stairway}
-use Rattle.gate.specs.Rows.{GateFits}
 use Rattle.table.specs.declared.Table.{Table}
 use Rattle.table.specs.Rows.{table_of}
 use Rattle.table.specs.Lookup.{all_in, TableFits, DemandThree}
 use Rattle.table.proofs.Demand.{demand_three, stairs_held, stairs_fit_table}
 use Rattle.entries.proofs.Opened.{Open, open_entries}
-use Rattle.entries.proofs.GateLaws.{gate_fits}
 use Rattle.desk.specs.declared.Desk.{Desk}
 use Rattle.desk.specs.Desks.{filled_desk, desk_of, held, Fit}
 use Rattle.desk.specs.Desks.{port_in, slots_in, streams_in, gate_in}
@@ -43,13 +41,8 @@ same_cycle d = gate_cycle (port_in d) (streams_in d)
 pub record OpenFits (d : Desk) : Type 0 where
   pub holds : held d ≡ opened (port_in d) (slots_in d) (streams_in d)
   pub sound : Sound (port_in d) (slots_in d) (streams_in d)
-  pub slots_count : d.nslots ≡ length (slots_in d)
-  pub few_slots : d.nslots ≤ 32
   pub streams_count : d.nstreams ≡ length (streams_in d)
   pub few_streams : d.nstreams ≤ 64
-  pub gate_fits : GateFits (gate_in d)
-  pub chain : Chain 0 (slots_in d) (gate_in d).cycle
-  pub few_runs : length (runs (gate_in d) (slots_in d)) ≤ 32
   pub table : table_in d ≡ table_of (stairs (gate_in d) (slots_in d))
   pub count : d.nstairs ≡ length (stairs (gate_in d) (slots_in d))
   pub stored : stored_stairs d ≡ stairs (gate_in d) (slots_in d)
@@ -92,13 +85,8 @@ module _ (d : Desk) (f : Fit d) (o : d.opened ≡ true) where
       record {
         holds = holds_open;
         sound = sound_open;
-        slots_count = entries_open.slots_count;
-        few_slots = entries_open.slots_few;
         streams_count = entries_open.streams_count;
         few_streams = entries_open.streams_few;
-        gate_fits = gate_fits (port_in d) (streams_in d) sound_open.port_in;
-        chain = chain_open;
-        few_runs = few;
         table = ap table_in filled_open;
         count = count;
         stored = stairs_held (gate_in d) (slots_in d) _ _ _ far_row tot_row count;

@@ -19,14 +19,14 @@ use Rattle.meaning.specs.Refusals.{accepted}
 use Rattle.meaning.specs.Desks.{bare, opened}
 use Rattle.meaning.specs.Desks.{Desk as Plan}
 use Rattle.meaning.specs.Calls.{open_port, add_slot, remove_slot, add_stream, remove_stream}
-use Rattle.meaning.specs.Promises.{Chain, Sound}
+use Rattle.meaning.specs.Promises.{Sound}
 use Rattle.meaning.proofs.Refusing.{accepted≢refused}
 use Rattle.meaning.proofs.Conditions.{open_says, add_slot_says, remove_slot_says, add_stream_says, remove_stream_says}
 use Rattle.meaning.proofs.Sounds.{gate_of_streams, gate_chain}
 use Rattle.meaning.proofs.ChainFree.{runs_few}
 use Rattle.meaning.proofs.Gates.{slots_stairway}
 use Rattle.gate.specs.declared.RunRow.{RunRow}
-use Rattle.gate.specs.Rows.{GateFits, no_run, run_row}
+use Rattle.gate.specs.Rows.{no_run, run_row}
 use Rattle.table.specs.declared.Table.{Table}
 use Rattle.table.specs.Rows.{table_of}
 use Rattle.stairs.specs.Rows.{RunsFit}
@@ -72,15 +72,6 @@ with_table e t =
     }
 
 module _ (e : Entries) (h : Open e) (g : Gate) (q : g ≡ gate_in e) where
-  -- their runs may be asked for
-  pub may_find : (length (slots_in e) ≤ 32) × GateFits g × Chain 0 (slots_in e) g.cycle
-  may_find =
-      rw q (
-        omega (arith, h.slots_count, h.slots_few),
-        gate_fits (port_in e) (streams_in e) h.sound.port_in,
-        gate_chain (port_in e) (streams_in e) (slots_in e) h.sound.chain,
-      )
-
   found_fit : RunsFit g.cycle (runs g (slots_in e))
   found_fit = rw q (runs_fit (port_in e) (slots_in e) (streams_in e) h.sound)
 

@@ -64,9 +64,9 @@ pub fn with_stairs(e: Entries) -> Desk
     requires { FitEntries e × (e.opened ≡ true) }
     ensures { (result ≡ desk_of (held_in e)) × Fit result }
 {
-    let g = e.gate();
-    let found = gate::find_runs(g, e.held_slots());
-    let t = stairs::build(g.cycle, found.runs());
+    let held = e.chain();
+    let found = held.find_runs();
+    let t = stairs::build(held.gate.cycle, found.runs());
     let slots = e.slots;
     let streams = e.streams;
     let far = t.far;

@@ -1,4 +1,4 @@
--- The gate numbers in force are in range.
+-- The gate numbers in force are in range, and the slots held lie in a chain.
 -- Assumes nothing.
 use mathlib.Core.Path.{◌≡◌}
 use mathlib.Core.Bool.{true}
@@ -9,7 +9,11 @@ use Rattle.meaning.specs.declared.Stream.{Stream}
 use Rattle.meaning.specs.Ranges.{port_ranges, in_range}
 use Rattle.meaning.specs.Runs.{gate_of}
 use Rattle.meaning.proofs.InRange.{port_in_lem}
-use Rattle.gate.specs.Rows.{GateFits}
+use Rattle.meaning.proofs.Sounds.{gate_chain}
+use Rattle.gate.specs.Rows.{GateFits, SlotsFit}
+use Rattle.entries.specs.declared.Entries.{Entries}
+use Rattle.entries.specs.Entries.{port_in, slots_in, streams_in, gate_in}
+use Rattle.entries.proofs.Opened.{Open}
 
 module _ (p : Port) (js : List Stream) where
   pub gate_fits : in_range (port_ranges p) ≡ true → GateFits (gate_of p js)
@@ -22,3 +26,10 @@ module _ (p : Port) (js : List Stream) where
         guard_most = omega arith;
         header_most = omega arith;
       }
+
+pub held_fit : (e : Entries) → Open e → SlotsFit (gate_in e) (slots_in e)
+held_fit e h = record {
+  few = omega (arith, h.slots_count, h.slots_few);
+  gate = gate_fits (port_in e) (streams_in e) h.sound.port_in;
+  chain = gate_chain (port_in e) (streams_in e) (slots_in e) h.sound.chain;
+}

@@ -20,13 +20,12 @@ use Rattle.meaning.specs.Runs.{has_free}
 use Rattle.meaning.specs.Refusals.{accepted, refused}
 use Rattle.meaning.specs.Desks.{opened}
 use Rattle.meaning.specs.Calls.{overlaps, with_slot, add_slot, remove_slot}
-use Rattle.meaning.specs.Promises.{Chain}
 use Rattle.meaning.proofs.InRange.{slot_in}
 use Rattle.meaning.proofs.InRange.{port_in_lem, slot_in}
 use Rattle.meaning.proofs.Conditions.{AddSlotSays, add_slot_says, remove_slot_says}
 use Rattle.meaning.proofs.Sounds.{chain_insert, chain_rises, gate_chain}
 use Rattle.rows.specs.Rows.{no_slot}
-use Rattle.gate.specs.Rows.{GateFits}
+use Rattle.gate.specs.Rows.{SlotsFit}
 use Rattle.entries.specs.declared.Entries.{Entries}
 use Rattle.entries.specs.Entries.{entries_of, held_in, port_in, slots_in, streams_in, gate_in, with_slot_row}
 use Rattle.entries.proofs.Opened.{Open, held_bare, slots_set}
@@ -92,16 +91,17 @@ module _ (e : Entries) (s : Slot) where
         -- whether it leaves a free cell may be asked
         pub may_test_free : in_range (slot_ranges e.cycle s) ≡ true → e.nslots < 32
             → any (overlaps s) (slots_in e) ≡ false
-            → (length (take (e.nslots + 1) row) ≤ 32) × GateFits g × Chain 0 (take (e.nslots + 1) row) g.cycle
+            → SlotsFit g (take (e.nslots + 1) row)
         may_test_free r n o =
             let (b, c) = (slot_in e.cycle s).0 r in
             let apart = (any_false (overlaps s) (slots_in e)).0 o in
-            rw (q, taken) (
-              omega (arith, more),
-              gate_fits (port_in e) (streams_in e) h.sound.port_in,
-              gate_chain (port_in e) (streams_in e) (with_slot s (slots_in e))
-                  (chain_insert s 0 e.cycle (slots_in e) zero-le b c apart h.sound.chain),
-            )
+            rw (q, taken) (record {
+              few = omega (arith, more);
+              gate = gate_fits (port_in e) (streams_in e) h.sound.port_in;
+              chain =
+                  gate_chain (port_in e) (streams_in e) (with_slot s (slots_in e))
+                  (chain_insert s 0 e.cycle (slots_in e) zero-le b c apart h.sound.chain);
+            })
 
         pub free_tested : (b : Bool) → b ≡ has_free g (take (e.nslots + 1) row)
             → has_free (gate_in e) (with_slot s (slots_in e)) ≡ b

@@ -2,9 +2,10 @@
 ghost use Rattle.std.specs.Prelude.{◌≡◌, ◌≤◌, true, false, MatchResult};
 ghost use Rattle.meaning.specs.declared.Refusal.TheVariants.{OutOfTurn};
 ghost use Rattle.meaning.specs.Ranges.{octet_limit};
-ghost use Rattle.entries.specs.Entries.{port_in, slots_in, streams_in, gate_in};
+ghost use Rattle.entries.specs.Entries.{port_in, slots_in, streams_in, gate_in, FitEntries};
 
 use crate::Entries;
+use gate::Slots;
 use meaning::{Gate, Refusal, Slot, Stream};
 
 // The octets of a frame, at most.
@@ -48,6 +49,17 @@ impl Entries {
             cycle: self.cycle,
             guard: self.guard,
             header: self.header,
+        }
+    }
+
+    // The gate numbers in force and the slots held, where a port is open.
+    pub fn chain(&self) -> Slots<'_>
+        requires { FitEntries self.now × (self.now.opened ≡ true) }
+        ensures { (result.gate ≡ gate_in self.now) × (result.slots.now ≡ slots_in self.now) }
+    {
+        Slots {
+            gate: self.gate(),
+            slots: self.held_slots(),
         }
     }
 

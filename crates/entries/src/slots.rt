@@ -8,6 +8,7 @@ ghost use Rattle.ranges.specs.Numbers.{slot_of};
 ghost use Rattle.entries.specs.Entries.{held_in, FitEntries, Edits};
 
 use crate::Entries;
+use gate::Slots;
 use meaning::{Refusal, Slot};
 
 impl Entries {
@@ -25,7 +26,11 @@ impl Entries {
         }
         let mut row = self.slots;
         rows::insert(&mut row, n, s);
-        if !gate::some_free(self.gate(), &row[..n + 1]) {
+        let more = Slots {
+            gate: self.gate(),
+            slots: &row[..n + 1],
+        };
+        if !more.some_free() {
             return Err(Refusal::NoFreeCell);
         }
         self.slots = row;

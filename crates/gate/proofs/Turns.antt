@@ -17,7 +17,7 @@ use Rattle.meaning.specs.Promises.{Chain}
 use Rattle.meaning.proofs.Chains.{last_end, hang_end, hang_ge}
 use Rattle.meaning.proofs.ChainCells.{reach_of}
 use Rattle.gate.specs.declared.RunRow.{RunRow}
-use Rattle.gate.specs.Rows.{GateFits, no_run, run_row}
+use Rattle.gate.specs.Rows.{SlotsFit, no_run, run_row}
 use Rattle.gate.specs.Walks.{hang_ends, run_with, run_if, walked, WalkFits}
 use Rattle.laws.proofs.Filling.{Filling, filling_start, filling_put, filling_skip}
 use Rattle.gate.proofs.Rows.{row_none, row_filled, row_count, row_more}
@@ -196,9 +196,7 @@ all_across g (s ∷ post) ok h w wide = sym (runs_across g s post ok w (rw (last
 
 -- what is known of all slots, one at least: the first, the last, and where those that hang together stop
 pub record Known (g : Gate) (ss : List Slot) (first last : Slot) (ends : List ℕ) : Type 0 where
-  pub few : length ss ≤ 32
-  pub fits : GateFits g
-  pub chain : Chain 0 ss g.cycle
+  pub fits : SlotsFit g ss
   pub some : 0 < length ss
   pub first_is : first ≡ slot_at ss 0
   pub last_is : last ≡ slot_at ss (length ss - 1)
@@ -222,8 +220,8 @@ module _ {g : Gate} {ss : List Slot} {first last : Slot} {ends : List ℕ} (k : 
 
   pub lie : Lie
   lie =
-      let x = within (reach_of g) 0 g.cycle ss k.chain 0 k.some in
-      let y = within 0 0 g.cycle ss k.chain (length ss - 1) (omega (arith, k.some)) in
+      let x = within (reach_of g) 0 g.cycle ss k.fits.chain 0 k.some in
+      let y = within 0 0 g.cycle ss k.fits.chain (length ss - 1) (omega (arith, k.some)) in
       record {
         first_some = rw k.first_is x.some;
         near = rw (k.first_is, far_is) x.near;
@@ -236,13 +234,13 @@ module _ {g : Gate} {ss : List Slot} {first last : Slot} {ends : List ℕ} (k : 
   walk_all =
       let x = lie in
       record {
-        few = k.few;
-        fits = k.fits;
+        few = k.fits.few;
+        fits = k.fits.gate;
         first_in = omega (arith, x.first_some, x.near, x.far_in);
         far_in = x.far_in;
         before_in = omega (arith, x.last_in);
         lo = 0;
-        chain = k.chain;
+        chain = k.fits.chain;
         stops = k.stops;
       }
 
@@ -251,20 +249,20 @@ module _ {g : Gate} {ss : List Slot} {first last : Slot} {ends : List ℕ} (k : 
   walk_others =
       let x = lie in
       rw (tail_all ss, tail_all ends) (record {
-        few = omega (arith, length-drop 1 ss, k.few);
-        fits = k.fits;
+        few = omega (arith, length-drop 1 ss, k.fits.few);
+        fits = k.fits.gate;
         first_in = omega (arith, x.first_some, x.near, x.far_in);
         far_in = x.far_in;
         before_in = omega (arith, x.near, x.far_in);
         lo = (slot_at ss 0).end;
-        chain = (chain_at 0 ss g.cycle 0 k.chain k.some).1;
+        chain = (chain_at 0 ss g.cycle 0 k.fits.chain k.some).1;
         stops = ap (drop 1) k.stops ∙ hangs_drop (reach_of g) 1 ss;
       })
 
   pub row_plain : {row : RunRow} → row ≡ run_row (walked g first.start (get_or ends 0 0) last.end ss)
       → g.guard ≤ first.start → row ≡ run_row (runs g ss)
   row_plain e w =
-      e ∙ ap run_row (rw (far_is, k.first_is, k.last_is) (all_plain g ss k.chain k.some (rw k.first_is at w)))
+      e ∙ ap run_row (rw (far_is, k.first_is, k.last_is) (all_plain g ss k.fits.chain k.some (rw k.first_is at w)))
 
   -- behind the first slot there is a place for its run
   pub others_few : {row : RunRow}
@@ -276,7 +274,7 @@ module _ {g : Gate} {ss : List Slot} {first last : Slot} {ends : List ℕ} (k : 
         arith,
         walked_few g first.start (get_or ends 0 0) (first.end + g.cycle) (take (length ss - 1) (drop 1 ss)),
         length-take (length ss - 1) (drop 1 ss),
-        k.few,
+        k.fits.few,
         k.some,
       ))
 
@@ -287,7 +285,7 @@ module _ {g : Gate} {ss : List Slot} {first last : Slot} {ends : List ℕ} (k : 
       e
       ∙ ap run_row
       (rw (tail_all ss, far_is, k.first_is)
-      (all_hung g ss k.chain k.some (rw k.first_is at w) (rw (k.first_is, k.last_is) at near)))
+      (all_hung g ss k.fits.chain k.some (rw k.first_is at w) (rw (k.first_is, k.last_is) at near)))
 
   pub row_across : {row more : RunRow} {r : Run}
       → row ≡ run_row (walked g first.start (get_or ends 0 0) (first.end + g.cycle) (take (length ss - 1) (drop 1 ss)))
@@ -299,4 +297,4 @@ module _ {g : Gate} {ss : List Slot} {first last : Slot} {ends : List ℕ} (k : 
       q ∙ row_more _ e x few
       ∙ ap run_row
       (rw (tail_all ss, far_is, k.first_is)
-      (all_across g ss k.chain k.some (rw k.first_is at w) (rw (k.first_is, k.last_is) at wide)))
+      (all_across g ss k.fits.chain k.some (rw k.first_is at w) (rw (k.first_is, k.last_is) at wide)))

@@ -3,9 +3,8 @@
 
 ghost use Rattle.std.specs.Prelude.{[], ◌≡◌, ◌+◌, ◌≤◌, ◌<◌, length, set, take};
 ghost use Rattle.meaning.specs.Runs.{has_free, runs};
-ghost use Rattle.meaning.specs.Promises.{Chain};
 ghost use Rattle.meaning.proofs.ChainCells.{reach_of};
-ghost use Rattle.gate.specs.Rows.{GateFits, run_row};
+ghost use Rattle.gate.specs.Rows.{GateFits, SlotsFit, slots_fit_prop, run_row};
 ghost use Rattle.gate.specs.Walks.{hang_ends, run_with, walked, WalkFits};
 
 use meaning::{Gate, Run, Slot};
@@ -45,44 +44,6 @@ impl RunRow {
         self.row[self.n] = r;
         self.n += 1;
     }
-}
-
-// Whether some cell is free: there is no slot, or some gap is over guard + header, the one around the cycle's end among
-// them. The slot before the first is the last one; the slot before any other ends at before, one cycle on.
-pub fn some_free(g: Gate, slots: &[Slot]) -> bool
-    requires { (length slots.now ≤ 32) × GateFits g × Chain 0 slots.now g.cycle }
-    ensures { result ≡ has_free g slots.now }
-{
-    let Some(last) = slots.last() else {
-        return true;
-    };
-    let reach = g.guard + g.header;
-    let mut before = last.end;
-    for s in slots {
-        if before + reach < s.start + g.cycle {
-            return true;
-        }
-        before = s.end + g.cycle;
-    }
-    false
-}
-
-// Two slots hang together where the gap between them is at most guard + header: what they block overlaps or touches.
-// Of each slot, the end of the last one that hangs together with it before the cycle's end.
-fn hang_ends(g: Gate, slots: &[Slot]) -> [u32; 32]
-    requires { (length slots.now ≤ 32) × GateFits g × Chain 0 slots.now g.cycle }
-    ensures { take (length slots.now) result ≡ hang_ends (reach_of g) slots.now }
-{
-    let reach = g.guard + g.header;
-    let mut ends = [0; 32];
-    for i in (0..slots.len()).rev() {
-        let s = slots[i];
-        ends[i] = match slots.get(i + 1) {
-            Some(t) if t.start <= s.end + reach => ends[i + 1],
-            _ => s.end,
-        };
-    }
-    ends
 }
 
 // The run that starts with slot s, where the gap before s is over guard + header. The slots that hang together with s
@@ -128,32 +89,80 @@ fn runs_from(g: Gate, first: u32, far: u32, slots: &[Slot], ends: &[u32], before
     found
 }
 
-// The blocked runs by rising start. The one that crosses the cycle's end is whole, and stands last, also where it
-// starts with the first slot, whose guard then reaches back over the cycle's end.
-pub fn find_runs(g: Gate, slots: &[Slot]) -> RunRow
-    requires { (length slots.now ≤ 32) × GateFits g × Chain 0 slots.now g.cycle }
-    ensures { result ≡ run_row (runs g slots.now) }
-{
-    let (Some(first), Some(last)) = (slots.first(), slots.last()) else {
-        return RunRow::none();
-    };
-    let reach = g.guard + g.header;
-    let ends = hang_ends(g, slots);
-    let ends = &ends[..slots.len()];
-    let far = ends[0];
-    if g.guard <= first.start {
-        return runs_from(g, first.start, far, slots, ends, last.end);
+// The gate numbers in force, and the slots held: by rising start, none over another, none past the cycle's end.
+#[derive(Clone, Copy)]
+pub struct Slots<'a> {
+    pub gate: Gate,
+    pub slots: &'a [Slot],
+    pub ghost fits: { SlotsFit gate slots.now } by { slots_fit_prop gate slots.now },
+}
+
+impl<'a> Slots<'a> {
+    // Whether some cell is free: there is no slot, or some gap is over guard + header, the one around the cycle's end
+    // among them. The slot before the first is the last one; the slot before any other ends at before, one cycle on.
+    pub fn some_free(&self) -> bool
+        ensures { result ≡ has_free self.now.gate self.now.slots.now }
+    {
+        let Some(last) = self.slots.last() else {
+            return true;
+        };
+        let g = self.gate;
+        let reach = g.guard + g.header;
+        let mut before = last.end;
+        for s in self.slots {
+            if before + reach < s.start + g.cycle {
+                return true;
+            }
+            before = s.end + g.cycle;
+        }
+        false
     }
-    let mut found = runs_from(
-        g,
-        first.start,
-        far,
-        &slots[1..],
-        &ends[1..],
-        first.end + g.cycle,
-    );
-    if last.end + reach < first.start + g.cycle {
-        found.push(run_with(g, first.start, far, *first, far));
+
+    // Two slots hang together where the gap between them is at most guard + header: what they block overlaps or
+    // touches. Of each slot, the end of the last one that hangs together with it before the cycle's end.
+    fn hang_ends(&self) -> [u32; 32]
+        ensures { take (length self.now.slots.now) result ≡ hang_ends (reach_of self.now.gate) self.now.slots.now }
+    {
+        let g = self.gate;
+        let reach = g.guard + g.header;
+        let mut ends = [0; 32];
+        for i in (0..self.slots.len()).rev() {
+            let s = self.slots[i];
+            ends[i] = match self.slots.get(i + 1) {
+                Some(t) if t.start <= s.end + reach => ends[i + 1],
+                _ => s.end,
+            };
+        }
+        ends
     }
-    found
+
+    // The blocked runs by rising start. The one that crosses the cycle's end is whole, and stands last, also where it
+    // starts with the first slot, whose guard then reaches back over the cycle's end.
+    pub fn find_runs(&self) -> RunRow
+        ensures { result ≡ run_row (runs self.now.gate self.now.slots.now) }
+    {
+        let (Some(first), Some(last)) = (self.slots.first(), self.slots.last()) else {
+            return RunRow::none();
+        };
+        let g = self.gate;
+        let reach = g.guard + g.header;
+        let ends = self.hang_ends();
+        let ends = &ends[..self.slots.len()];
+        let far = ends[0];
+        if g.guard <= first.start {
+            return runs_from(g, first.start, far, self.slots, ends, last.end);
+        }
+        let mut found = runs_from(
+            g,
+            first.start,
+            far,
+            &self.slots[1..],
+            &ends[1..],
+            first.end + g.cycle,
+        );
+        if last.end + reach < first.start + g.cycle {
+            found.push(run_with(g, first.start, far, *first, far));
+        }
+        found
+    }
 }

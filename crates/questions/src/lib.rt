@@ -38,7 +38,7 @@ fn runs_of(d: &Desk) -> Result<RunRow, Refusal>
 {
     opened(d)?;
     let e = desk::entries_of(d);
-    Ok(gate::find_runs(e.gate(), e.held_slots()))
+    Ok(e.chain().find_runs())
 }
 
 // The stairs that the desk stores.

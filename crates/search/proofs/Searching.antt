@@ -20,6 +20,7 @@ use Rattle.arrivals.specs.declared.counts.Counts.{Counts}
 use Rattle.arrivals.specs.declared.rows.Rows.{Rows}
 use Rattle.arrivals.specs.Rows.{stream_at, row_load, RowsFit, RowsCounted}
 use Rattle.search.specs.Asked.{Asked, OwnFits, own_stream, row_demand, row_busy}
+use Rattle.search.specs.declared.demand.Demand.{Demand}
 use Rattle.search.specs.declared.own.Own.{Own}
 use Rattle.search.specs.Searches.{table_of, all_of, TableBounds, asked_of, Counted, demand, busy, NoneCloses, Closes}
 use Rattle.arrivals.proofs.Counting.{rows_few, rows_on, rows_all}
@@ -104,7 +105,7 @@ pub tried_busy : (v : ℕ → ℕ) (per jit cost : List ℕ) (n : ℕ) (own : As
 unfolding row_demand row_busy
 tried_busy v per jit cost n own base w e = omega (arith, ap v (add-zero w))
 
--- own's frames, a load that is no more than that of the rows, and the interference ask for no more than the window does
+-- own's frames, a load that is no more than that of the rows, and the interference: no more than the window asks for
 pub tried_under : (v : ℕ → ℕ) (per jit cost : List ℕ) (n : ℕ) (own : Asked) (base load blocked w : ℕ)
     → base ≡ own.lower + most_in (own_stream own) w * own.wire → load ≤ row_load per jit cost n w → blocked ≡ v w
     → base + load + blocked ≤ row_busy v per jit cost n own w
@@ -142,16 +143,19 @@ base_soon v per jit cost n base off (x, closes, soon) = omega arith
 
 -- ---- over the code's structs
 
-module _ (s : Stairs) (fit : TableBounds s) (r : Rows) where
+module _ (d : Demand) where
+  abbrev r : Rows
+  r = d.rows.now
+
   -- the load that is counted fits 64 bits with room to spare
   pub loads_few : (seen : Counts) (w : ℕ) → Counted r seen w → w ≤ 100_000_000 → seen.load ≤ 2_560_128_000_000
   loads_few seen w u soon = omega (arith, r.fit.few, rows_few r.per r.jit r.cost r.n r.fit seen w u soon)
 
-  pub demand_grows : (base off : ℕ) → Mono (demand s r base off)
-  demand_grows = row_demand_mono r.per r.jit r.cost r.n r.fit (table_of s) fit.grows
+  pub demand_grows : (base off : ℕ) → Mono (demand d.stairs r base off)
+  demand_grows = row_demand_mono r.per r.jit r.cost r.n r.fit (table_of d.stairs) d.bounds.grows
 
-  pub busy_grows : (o : Own) → Mono (busy s r o)
-  busy_grows o = row_busy_mono r.per r.jit r.cost r.n r.fit (table_of s) fit.grows (asked_of o) o.fits
+  pub busy_grows : (o : Own) → Mono (busy d.stairs r o)
+  busy_grows o = row_busy_mono r.per r.jit r.cost r.n r.fit (table_of d.stairs) d.bounds.grows (asked_of o) o.fits
 
 -- what is counted up to x is counted up to any number from x on
 pub counted_on_to : (r : Rows) {seen : Counts} {x y : ℕ} → Counted r seen x → x ≤ y → Counted r seen y

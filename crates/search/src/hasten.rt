@@ -1,11 +1,10 @@
 // The way to the busy window, by products in place of divisions: what is asked for at least, and how far that reaches.
 ghost use Rattle.std.specs.Prelude.{◌*◌, ◌≤◌, length};
 ghost use Rattle.arrivals.specs.Rows.{row_load, RowIn, Inverses};
-ghost use Rattle.search.specs.Searches.{TableBounds, busy, Hastened};
+ghost use Rattle.search.specs.Searches.{busy, Hastened};
 
-use crate::{HORIZON, Own};
+use crate::{Demand, HORIZON, Own};
 use arrivals::{Rows, frames_at_least, frames_wire, inverse};
-use table::Stairs;
 
 // The inverse of each period.
 fn inverses(per: &[u32]) -> [u32; 64]
@@ -32,22 +31,25 @@ fn load_at_least(rows: &Rows, inv: &[u32; 64], x: u32) -> u64
     load
 }
 
-// A number up to the horizon that no busy window of own is shorter than: from 0 on, by what is asked for at least.
-// Mostly it is the window, or just below. None where that passes the horizon, and so there is no window.
-pub fn hasten(rows: &Rows, stairs: &Stairs, own: &Own) -> Option<u32>
-    requires { TableBounds stairs.now }
-    ensures { Hastened (busy stairs.now rows.now own.now) result }
-{
-    let inv = inverses(&rows.per[..rows.n]);
-    let mut w = 0;
-    loop {
-        let need = own.load(w) + load_at_least(rows, &inv, w) + stairs.interference(w);
-        if need <= u64::from(w) {
-            return Some(w);
+impl Demand<'_> {
+    // A number up to the horizon that no busy window of own is shorter than: from 0 on, by what is asked for at least.
+    // Mostly it is the window, or just below. None where that passes the horizon, and so there is no window.
+    pub fn hasten(&self, own: &Own) -> Option<u32>
+        ensures { Hastened (busy self.now.stairs self.now.rows.now own.now) result }
+    {
+        let inv = inverses(&self.rows.per[..self.rows.n]);
+        let mut w = 0;
+        loop {
+            let need = own.load(w)
+                + load_at_least(self.rows, &inv, w)
+                + self.stairs.interference(w);
+            if need <= u64::from(w) {
+                return Some(w);
+            }
+            if HORIZON < need {
+                return None;
+            }
+            w = need as u32;
         }
-        if HORIZON < need {
-            return None;
-        }
-        w = need as u32;
     }
 }

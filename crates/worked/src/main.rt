@@ -1,10 +1,9 @@
 // Prints the runs and the stairs of plan F, and of the worked example of document 000, Table I, scaled by 1,000.
 #![tactic(auto)]
 
-ghost use Rattle.std.specs.Prelude.{◌≤◌, length};
-ghost use Rattle.meaning.specs.Promises.{Chain};
-ghost use Rattle.gate.specs.Rows.{GateFits};
+ghost use Rattle.std.specs.Prelude.{◌≤◌};
 
+use gate::Slots;
 use meaning::{Gate, Run, Slot};
 use std::io;
 use table::Table;
@@ -28,26 +27,24 @@ fn show_stairs(rt: &impl Print, t: &Table) -> io::Result<()>
 }
 
 // The runs and stairs of slots that leave a cell free.
-fn show(rt: &impl Print, g: Gate, slots: &[Slot]) -> io::Result<()>
-    requires { (length slots.now ≤ 32) × GateFits g × Chain 0 slots.now g.cycle }
-{
-    if gate::some_free(g, slots) {
-        let found = gate::find_runs(g, slots);
+fn show(rt: &impl Print, s: &Slots) -> io::Result<()> {
+    if s.some_free() {
+        let found = s.find_runs();
         let runs = found.runs();
         show_runs(rt, runs)?;
-        show_stairs(rt, &stairs::build(g.cycle, runs))?;
+        show_stairs(rt, &stairs::build(s.gate.cycle, runs))?;
     }
     Ok(())
 }
 
 // Plan F of document 01.
 fn show_f(rt: &impl Print) -> io::Result<()> {
-    let g = Gate {
+    let gate = Gate {
         cycle: 100_000,
         guard: 1_000,
         header: 500,
     };
-    let slots = [
+    let slots = &[
         Slot {
             start: 10_000,
             end: 14_000,
@@ -61,17 +58,17 @@ fn show_f(rt: &impl Print) -> io::Result<()> {
             end: 68_500,
         },
     ];
-    show(rt, g, &slots)
+    show(rt, &Slots { gate, slots })
 }
 
 // Document 000, Table I: a slot's guard of 1 stands before it, so that its runs are the table's slots.
 fn show_one(rt: &impl Print) -> io::Result<()> {
-    let g = Gate {
+    let gate = Gate {
         cycle: 20_000,
         guard: 1,
         header: 0,
     };
-    let slots = [
+    let slots = &[
         Slot {
             start: 3_001,
             end: 6_000,
@@ -85,7 +82,7 @@ fn show_one(rt: &impl Print) -> io::Result<()> {
             end: 18_000,
         },
     ];
-    show(rt, g, &slots)
+    show(rt, &Slots { gate, slots })
 }
 
 fn main(rt: HostRuntime) -> io::Result<()> {

@@ -12,6 +12,17 @@ returns-then-interference-gt-HORIZON c =
     endless_first (table_of c.args.stairs.now) (asked_of c.args.own.now) r.per r.jit r.cost r.n c.requires.v_grows
     (omega (arith, c.interference.ensures))
 
+pub invariant_of-demand : goal.invariant_of-demand
+invariant_of-demand c =
+    record {
+      bounds =
+          record {
+            all_most = c.requires.all_most;
+            first_most = omega (arith, c.interference.ensures);
+            grows = c.requires.v_grows;
+          };
+    }
+
 pub returns-in_err-b : goal.returns-in_err-b
 returns-in_err-b c =
     let r = c.args.rows.now in
@@ -37,12 +48,9 @@ worst-requires c =
     let r = c.args.rows.now in
     let own = c.args.own.now in
     let w = c.in_ok-b.ensures in
-    let p = c.requires in (
-      record { all_most = p.all_most; first_most = omega (arith, c.interference.ensures); grows = p.v_grows },
-      beside_in (table_of c.args.stairs.now) (asked_of own) r.per r.jit r.cost r.n c.in_ok-b.b w.0 w.1 own.fits
-          (c.frames_in.result + 1 - c.frames_in-2.result) c.enough-few.result
-          (counts_apart _ _ _ _ c.frames_in.ensures.0 c.frames_in-2.ensures.0) c.enough-few.ensures.1 p.beside,
-    )
+    beside_in (table_of c.args.stairs.now) (asked_of own) r.per r.jit r.cost r.n c.in_ok-b.b w.0 w.1 own.fits
+    (c.frames_in.result + 1 - c.frames_in-2.result) c.enough-few.result
+    (counts_apart _ _ _ _ c.frames_in.ensures.0 c.frames_in-2.ensures.0) c.enough-few.ensures.1 c.requires.beside
 
 pub returns : goal.returns
 returns c =

@@ -13,11 +13,12 @@ cold : (s : Start)
     → let o = asked_of s.args.own.now in
     o.lower + (first o - 1) * o.wire + o.wire ≤ 100_000_000
 cold s =
-    let r = s.args.rows.now in
+    let d = s.args.demand.now in
+    let r = d.rows.now in
     let own = s.args.own.now in
     let o = asked_of own in
-    cold_start (table_of s.args.stairs.now) s.requires.0.grows o own.fits r.per r.jit r.cost r.n s.args.frames
-    s.requires.1 (o.lower + (first o - 1) * o.wire) refl
+    cold_start (table_of d.stairs) d.bounds.grows o own.fits r.per r.jit r.cost r.n s.args.frames
+    s.requires (o.lower + (first o - 1) * o.wire) refl
 
 pub first_base-base-requires : goal.first_base-base-requires
 first_base-base-requires c = omega (arith, cold (goal.at.first_base-base-requires c).Start)
@@ -27,7 +28,8 @@ counted-seen-requires c = omega (arith, cold (goal.at.counted-seen-requires c).S
 
 pub loop-init : goal.loop-init
 loop-init c =
-    let r = c.args.rows.now in
+    let d = c.args.demand.now in
+    let r = d.rows.now in
     let own = c.args.own.now in
     let base = c.first_base-base in
     let next = c.next_after-later in
@@ -36,7 +38,7 @@ loop-init c =
       omega (arith, cold (goal.at.loop-init c).Start, base.ensures),
       numbers_start (asked_of own) own.fits base.result next.result base.ensures next.ensures.0
           (rw next.ensures.0 near.0),
-      frames_start (table_of c.args.stairs.now) c.requires.0.grows (asked_of own) own.fits r.per r.jit r.cost r.n
+      frames_start (table_of d.stairs) d.bounds.grows (asked_of own) own.fits r.per r.jit r.cost r.n
           c.args.frames base.result base.ensures,
     )
 
@@ -47,34 +49,36 @@ numbers c = rw c.from.ensures c.loop.invariant.2
 
 -- some number up to the horizon closes the wait of the frame, and so base is no longer than it
 closes : (c : After-from)
-    → Closes (demand c.args.stairs.now c.args.rows.now c.from.result c.args.own.now.wire)
+    → Closes (demand c.args.demand.now.stairs c.args.demand.now.rows.now c.from.result c.args.own.now.wire)
 closes c =
-    let r = c.args.rows.now in
+    let d = c.args.demand.now in
+    let r = d.rows.now in
     let own = c.args.own.now in
-    frame_closes (table_of c.args.stairs.now) c.requires.0.grows (asked_of own) own.fits r.per r.jit r.cost r.n
-    c.args.frames c.requires.1 c.loop.counter c.from.result c.loop.come c.loop.later (numbers c) c.loop-test.true
+    frame_closes (table_of d.stairs) d.bounds.grows (asked_of own) own.fits r.per r.jit r.cost r.n
+    c.args.frames c.requires c.loop.counter c.from.result c.loop.come c.loop.later (numbers c) c.loop-test.true
 
 base_few : (c : After-from) → c.loop.base ≤ 100_000_000
 base_few c =
-    let r = c.args.rows.now in
+    let d = c.args.demand.now in
+    let r = d.rows.now in
     omega (
       arith,
       c.from.ensures,
-      base_soon (table_of c.args.stairs.now) r.per r.jit r.cost r.n c.from.result c.args.own.now.wire (closes c),
+      base_soon (table_of d.stairs) r.per r.jit r.cost r.n c.from.result c.args.own.now.wire (closes c),
     )
 
 pub settle-requires : goal.settle-requires
 settle-requires c =
-    let r = c.args.rows.now in
+    let d = c.args.demand.now in
+    let r = d.rows.now in
     let own = c.args.own.now in
     let l = c.loop in
     let at = (goal.at.settle-requires c).After-from in (
-      c.requires.0,
       l.invariant.0,
       omega (arith, base_few at, c.from.ensures),
       omega (arith, own.fits.wire_most),
-      frame_under (table_of c.args.stairs.now) c.requires.0.grows (asked_of own) own.fits r.per r.jit r.cost r.n
-          c.args.frames c.requires.1 l.counter c.from.result l.come l.later (numbers at) c.loop-test.true l.w l.best
+      frame_under (table_of d.stairs) d.bounds.grows (asked_of own) own.fits r.per r.jit r.cost r.n
+          c.args.frames c.requires l.counter c.from.result l.come l.later (numbers at) c.loop-test.true l.w l.best
           l.invariant.3,
       closes at,
     )
@@ -83,12 +87,13 @@ settle-requires c =
 sent : (c : After-settle)
     → (c.settle.result + c.args.own.now.wire ≤ 100_000_000) × (c.loop.come ≤ c.settle.result)
 sent c =
-    let r = c.args.rows.now in
+    let d = c.args.demand.now in
+    let r = d.rows.now in
     let own = c.args.own.now in
     let l = c.loop in
     let at = (goal.at.settle-requires c.before).After-from in
-    frame_sent (table_of c.args.stairs.now) c.requires.0.grows (asked_of own) own.fits r.per r.jit r.cost r.n
-    c.args.frames c.requires.1 l.counter c.from.result l.come l.later (numbers at) c.loop-test.true c.settle.result
+    frame_sent (table_of d.stairs) d.bounds.grows (asked_of own) own.fits r.per r.jit r.cost r.n
+    c.args.frames c.requires l.counter c.from.result l.come l.later (numbers at) c.loop-test.true c.settle.result
     c.settle.ensures.2
 
 pub overflow_sub-sent : goal.overflow_sub-sent
@@ -108,7 +113,8 @@ step-later-requires c =
 
 pub loop-preserved : goal.loop-preserved
 loop-preserved c =
-    let r = c.args.rows.now in
+    let d = c.args.demand.now in
+    let r = d.rows.now in
     let own = c.args.own.now in
     let l = c.loop in
     let w = c.settle.result in
@@ -118,7 +124,7 @@ loop-preserved c =
       (sent (goal.at.loop-preserved c).After-settle).0,
       numbers_next (asked_of own) own.fits l.counter l.base l.come l.later l.invariant.2 c.step-later.result
           c.step-later.ensures,
-      frames_next (table_of c.args.stairs.now) c.requires.0.grows (asked_of own) own.fits r.per r.jit r.cost r.n
+      frames_next (table_of d.stairs) d.bounds.grows (asked_of own) own.fits r.per r.jit r.cost r.n
           c.args.frames l.counter c.from.result l.come l.later w l.w l.best (w + own.wire) c.max-best.result
           (numbers (goal.at.loop-preserved c).After-from) c.loop-test.true u.2 l.invariant.3 refl larger,
     )

@@ -6,6 +6,7 @@ use Rattle.frames.proofs.worst.Given as goal
 
 abbrev pub invariant-loop : goal.invariant-loop
 invariant-loop l =
-    Counted l.rows l.seen l.w × (l.w ≤ 100_000_000) × FrameNumbers (asked_of l.own) l.counter l.base l.come l.later
-    × FramesDone (table_of l.stairs) (asked_of l.own) l.rows.per l.rows.jit l.rows.cost l.rows.n l.frames l.counter
-    l.w l.best
+    let d = l.demand in
+    let r = d.rows.now in
+    Counted r l.seen l.w × (l.w ≤ 100_000_000) × FrameNumbers (asked_of l.own) l.counter l.base l.come l.later
+    × FramesDone (table_of d.stairs) (asked_of l.own) r.per r.jit r.cost r.n l.frames l.counter l.w l.best

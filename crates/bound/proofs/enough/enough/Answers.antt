@@ -14,12 +14,13 @@ use Rattle.bound.proofs.enough.enough.Goals as goal
 fit : (r : Rows) → RowsFit r.per (replicate 64 0) r.cost r.n
 fit r = calm_fits r.per r.jit r.cost (replicate 64 0) r.n r.fit (zeros_in r.n r.fit.few)
 
-pub invariant_of-calm : goal.invariant_of-calm
-invariant_of-calm c = record { fit = fit c.args.rows.now }
+pub invariant_of-rows : goal.invariant_of-rows
+invariant_of-rows c = record { fit = fit c.args.demand.now.rows.now }
 
 pub returns-then-need-from : goal.returns-then-need-from
 returns-then-need-from c =
-    let r = c.args.rows.now in
+    let d = c.args.demand.now in
+    let r = d.rows.now in
     let calm = calm_own (asked_of c.args.own.now) in
     let w = c.loop.w in
     let k = c.frames_in-k in
@@ -27,14 +28,14 @@ returns-then-need-from c =
     let none =
     c.frames_wire.ensures.0 ∙ ap (λ (q : ℕ). q * calm.wire) k.ensures.0 ∙ sym (zero-add (most * calm.wire)) in
     let busy =
-    tried_busy (table_of c.args.stairs.now) r.per (replicate 64 0) r.cost r.n calm c.frames_wire.result w none in (
+    tried_busy (table_of d.stairs) r.per (replicate 64 0) r.cost r.n calm c.frames_wire.result w none in (
       inr (w, omega (arith, c.attempt-need.ensures.1, busy), omega (arith, k.ensures.0)),
       omega arith,
     )
 
 pub loop-preserved : goal.loop-preserved
 loop-preserved c =
-    let r = c.args.rows.now in
+    let r = c.args.demand.now.rows.now in
     let t = c.attempt-need in (
       rows_on r.per (replicate 64 0) r.cost r.n (fit r) t.new.seen c.loop.w t.ensures.0 t.result (omega arith),
       omega arith,

@@ -4,4 +4,4 @@ use Rattle.search.specs.Searches.{Counted}
 use Rattle.bound.proofs.enough.enough.Given as goal
 
 abbrev pub invariant-loop : goal.invariant-loop
-invariant-loop l = Counted l.calm l.seen l.w × (l.w ≤ 100_000_000)
+invariant-loop l = Counted l.calm.rows.now l.seen l.w × (l.w ≤ 100_000_000)

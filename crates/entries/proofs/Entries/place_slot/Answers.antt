@@ -43,12 +43,12 @@ insert-requires c =
 
 -- ---- 10: a cell is left free
 
-pub some_free-requires : goal.some_free-requires
-some_free-requires c =
+pub invariant_of-more : goal.invariant_of-more
+invariant_of-more c =
     let e = c.args.self.now in
     let o = open_entries e c.requires.0 c.requires.1 in
     let apart : any (overlaps c.args.s) (slots_in e) ≡ false = cc (any_list (overlaps c.args.s) (slots_in e)) in
-    may_test_free e c.args.s o _ c.insert.ensures _ c.gate.ensures c.requires.2 c.if-n-ge32.false apart
+    record { fits = may_test_free e c.args.s o _ c.insert.ensures _ c.gate.ensures c.requires.2 c.if-n-ge32.false apart }
 
 pub returns-then-not-some_free : goal.returns-then-not-some_free
 returns-then-not-some_free c =

@@ -1,4 +1,4 @@
--- `gate::find_runs` meets its contract: the runs behind the first slot, and its own last where its guard reaches back
+-- `gate::Slots::find_runs` meets its contract: the runs behind the first slot, and its own last where its guard reaches back
 -- over the cycle's end.
 use Rattle.std.proofs.Common.{ap, sym, ◌∙◌, length, take, arith}
 use Rattle.gate.specs.Rows.{run_row}
@@ -14,23 +14,20 @@ use Rattle.gate.proofs.Turns.{
   row_hung,
   row_across,
 }
-use Rattle.gate.proofs.find_runs.Goals as goal
-use Rattle.gate.proofs.find_runs.Goals.{
+use Rattle.gate.proofs.Slots.find_runs.Goals as goal
+use Rattle.gate.proofs.Slots.find_runs.Goals.{
   After-hang_ends-ends,
   in_default-via-in-Some+in_default,
   in_default-via-in_default,
 }
 
 known : (c : After-hang_ends-ends)
-    → Known c.args.g c.args.slots.now c.in-Some-Some.first.now c.in-Some-Some.last.now
-    (take (length c.args.slots.now) c.hang_ends-ends.result)
+    → Known c.args.self.now.gate c.args.self.now.slots.now c.in-Some-Some.first.now c.in-Some-Some.last.now
+    (take (length c.args.self.now.slots.now) c.hang_ends-ends.result)
 known c =
-    let p = c.requires in
     let x = c.in-Some-Some.ensures.item.3 in
     record {
-      few = p.0;
-      fits = p.1;
-      chain = p.2;
+      fits = c.args.self.now.fits;
       some = x.0;
       first_is = x.1 no_slot;
       last_is = c.in-Some-Some.ensures'.item.3.1 no_slot;
@@ -42,7 +39,7 @@ returns-in_default c =
     c.none.ensures
     ∙ ap run_row
     (sym
-    (runs_none c.args.g c.args.slots.now
+    (runs_none c.args.self.now.gate c.args.self.now.slots.now
     (elim c.in_default.branch [
       | in_default-via-in-Some+in_default w ↦ w.in_default.ensures'.item.3
       | in_default-via-in_default w ↦ w.in_default.ensures.item.3
@@ -58,7 +55,7 @@ returns-then-g-first c =
 pub overflow_add-first : goal.overflow_add-first
 overflow_add-first c =
     let x = lie (known (goal.at.overflow_add-first c).After-hang_ends-ends) in
-    omega (arith, x.near, x.far_in, c.requires.1.cycle_most)
+    omega (arith, x.near, x.far_in, c.args.self.now.fits.gate.cycle_most)
 
 pub runs_from-found-requires : goal.runs_from-found-requires
 runs_from-found-requires c = walk_others (known (goal.at.runs_from-found-requires c).After-hang_ends-ends)
@@ -66,13 +63,13 @@ runs_from-found-requires c = walk_others (known (goal.at.runs_from-found-require
 pub overflow_add-last : goal.overflow_add-last
 overflow_add-last c =
     let x = lie (known (goal.at.overflow_add-last c).After-hang_ends-ends) in
-    let f = c.requires.1 in
+    let f = c.args.self.now.fits.gate in
     omega (arith, x.last_in, f.cycle_most, f.guard_most, f.header_most)
 
 pub run_with-requires : goal.run_with-requires
 run_with-requires c =
     let x = lie (known (goal.at.run_with-requires c).After-hang_ends-ends) in (
-      c.requires.1,
+      c.args.self.now.fits.gate,
       omega (arith, x.first_some, x.near, x.far_in),
       x.far_in,
       x.far_in,

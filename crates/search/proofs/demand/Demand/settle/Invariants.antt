@@ -3,11 +3,12 @@
 use Rattle.std.proofs.Common.{◌-◌, ◌≤◌}
 use Rattle.laws.proofs.Leasts.{Under}
 use Rattle.search.specs.Searches.{Counted, demand}
-use Rattle.search.proofs.settle.Given as goal
+use Rattle.search.proofs.demand.Demand.settle.Given as goal
 
 abbrev pub invariant-loop-base : goal.invariant-loop-base
 invariant-loop-base l =
-    Counted l.rows l.seen l.w × Under (demand l.stairs l.rows l.base l.off) l.w × (l.w ≤ 100_000_000)
+    Counted l.self.rows.now l.seen l.w × Under (demand l.self.stairs l.self.rows.now l.base l.off) l.w
+    × (l.w ≤ 100_000_000)
 
 abbrev pub decreases-loop-base : goal.decreases-loop-base
 decreases-loop-base l = 100_000_000 - l.w

@@ -1,24 +1,24 @@
--- `gate::hang_ends` meets its contract: the ends are filled in from the last slot back.
+-- `gate::Slots::hang_ends` meets its contract: the ends are filled in from the last slot back.
 use Rattle.std.proofs.Common.{◌≡◌, ◌+◌, ◌<◌, length, ◌-◌, sym, ◌∙◌, arith}
 use borrow.Author.Tests.{ltb-false}
 use Rattle.meaning.proofs.ChainCells.{reach_of}
 use Rattle.gate.proofs.Hangs.{no_slot, within, hangs_none, hangs_put, stops_last, stops_own, stops_next}
-use Rattle.gate.proofs.hang_ends.Goals as goal
-use Rattle.gate.proofs.hang_ends.Goals.{in-Some, in_default-2, in_default}
+use Rattle.gate.proofs.Slots.hang_ends.Goals as goal
+use Rattle.gate.proofs.Slots.hang_ends.Goals.{in-Some, in_default-2, in_default}
 
 pub loop-i-init : goal.loop-i-init
-loop-i-init c = hangs_none _ _ _ c.requires.0
+loop-i-init c = hangs_none _ _ _ c.args.self.now.fits.few
 
 pub overflow_add-s : goal.overflow_add-s
 overflow_add-s c =
-    let f = c.requires.1 in
-    let w = within 0 0 c.args.g.cycle c.args.slots.now c.requires.2 (c.loop-i.i - 1) (omega arith) in
+    let f = c.args.self.now.fits.gate in
+    let w = within 0 0 c.args.self.now.gate.cycle c.args.self.now.slots.now c.args.self.now.fits.chain (c.loop-i.i - 1) (omega arith) in
     omega (arith, f.cycle_most, f.guard_most, f.header_most, w.near, w.far)
 
 pub loop-i-preserved : goal.loop-i-preserved
 loop-i-preserved c =
-    let ss = c.args.slots.now in
-    let k = reach_of c.args.g in
+    let ss = c.args.self.now.slots.now in
+    let k = reach_of c.args.self.now.gate in
     let i = c.loop-i.i - 1 in
     let next : c.loop-i.i ≡ i + 1 = omega arith in
     let here : i < length ss = omega arith in

@@ -3,10 +3,11 @@
 use Rattle.std.proofs.Common.{◌-◌, ◌≤◌}
 use Rattle.laws.proofs.Leasts.{Under}
 use Rattle.search.specs.Searches.{Counted, busy}
-use Rattle.search.proofs.window.Given as goal
+use Rattle.search.proofs.demand.Demand.window.Given as goal
 
 abbrev pub invariant-loop-seen : goal.invariant-loop-seen
-invariant-loop-seen l = Counted l.rows l.seen l.w × Under (busy l.stairs l.rows l.own) l.w × (l.w ≤ 100_000_000)
+invariant-loop-seen l = Counted l.self.rows.now l.seen l.w × Under (busy l.self.stairs l.self.rows.now l.own) l.w
+    × (l.w ≤ 100_000_000)
 
 abbrev pub decreases-loop-seen : goal.decreases-loop-seen
 decreases-loop-seen l = 100_000_000 - l.w

@@ -1,6 +1,0 @@
--- `gate::hang_ends` meets its contract: the ends are filled in from the last slot back.
-use Rattle.gate.proofs.Hangs.{Hangs}
-use Rattle.gate.proofs.hang_ends.Given as goal
-
-abbrev pub invariant-loop-i : goal.invariant-loop-i
-invariant-loop-i l = Hangs l.reach l.slots l.i l.ends
