@@ -17,6 +17,7 @@ use std::io;
 use value::Value;
 
 // The bound that a refusal carries, 0 where it carries none.
+// Stays: no plainer as one with `face`, whose function is proved against what C is promised.
 fn carried(why: Refusal) -> u32 {
     match why {
         Refusal::Late { bound } => bound,

@@ -10,6 +10,7 @@ use meaning::Refusal;
 use table::Stairs;
 
 // What the desk holds, without its stairs.
+// Stays: field by field, since the C interface has the desk flat.
 pub fn entries_of(d: &Desk) -> Entries
     ensures { result ≡ entries_in d.now }
 {

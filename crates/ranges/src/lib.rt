@@ -88,6 +88,7 @@ pub fn stream_in_range(limit: u64, j: StreamNumbers) -> bool
 }
 
 // The port that has these numbers, where they are in range.
+// Stays: no plainer as TryFrom, since a slot's range asks for the cycle too, and a stream's for the octet limit.
 #[tactic(auto, unfolding(meaning::specs::Ranges::port_ranges, laws::specs::Lists::every))]
 pub fn port(p: PortNumbers) -> Result<Port, Refusal>
     ensures { result ≡ tested (port_ranges (port_of p)) (port_of p) }

@@ -14,6 +14,7 @@ fn show(rt: &impl Print, taken: &[u8]) -> io::Result<()> {
 }
 
 // The file of an argument.
+// Stays: no plainer in one with `plans`, which reads another length, prints otherwise and takes no more than this.
 fn show_file<R: Print + Files + Alloc>(rt: &R, path: &str) -> anyhow::Result<()> {
     println!(rt; "{path}")?;
     let mut taken = Vec::new(rt.alloc());
