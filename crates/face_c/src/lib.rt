@@ -1,5 +1,6 @@
 // The calls of `face` under their names for C and Rust: the static library. Each promises what the call that it makes
 // promises, in the same words.
+// Stays: the C interface; a static library is used by no crate, so `face` has the calls that can be.
 #![tactic(auto)]
 
 ghost use Rattle.std.specs.Prelude.{◌≡◌};

@@ -21,6 +21,7 @@ use search::HORIZON;
 use table::Table;
 
 // What every question asks first: that a port is open.
+// Stays: no plainer through `Entries::in_turn`, which asks for a copy of what the desk holds.
 fn opened(d: &Desk) -> Result<(), Refusal>
     ensures { MatchResult result (λ _. d.now.opened ≡ true) (λ why. (why ≡ OutOfTurn) × (d.now.opened ≡ false)) }
 {

@@ -8,6 +8,7 @@ ghost use Rattle.ranges.specs.Numbers.{port_of, slot_of, stream_of, tested};
 use meaning::{Port, Refusal, Slot, Stream};
 
 // The numbers of a port, as a caller has them.
+// Stays: no plainer as a generic `Port`, since every definition of document 01 would name the type of its numbers.
 #[derive(Clone, Copy)]
 pub struct PortNumbers {
     pub rate: u64,
