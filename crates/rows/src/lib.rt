@@ -80,6 +80,7 @@ fn first_larger<T: Keyed>(held: &[T], key: u32) -> Option<usize>
 
 // One more among the first n, by rising key: before the first one with a larger key, and from there on each moves one
 // place on.
+// Stays: a count beside the row, here and below, since the row moves into its free places, and fixed memory has no Vec.
 pub fn insert<T: Keyed>(row: &mut [T], n: usize, x: T)
     requires { (n < length row.old) × (row.old ≡ filled (length row.old) T.free_place (take n row.old)) }
     ensures { row.new ≡ filled (length row.old) T.free_place (insert_by T.key_of x (take n row.old)) }
