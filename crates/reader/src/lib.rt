@@ -2,7 +2,7 @@
 // names").
 #![tactic(auto)]
 
-ghost use Rattle.std.specs.Prelude.{◌≡◌, true, ◌≤◌, ◌<◌, length, drop, IfOk, OnOk};
+ghost use Rattle.std.specs.Prelude.{◌≡◌, true, ◌≤◌, ◌<◌, length, drop, IfOk, IfErr, OnOk};
 ghost use Rattle.meaning.specs.Desks.{bare};
 ghost use Rattle.meaning.specs.Bytes.{edit, going, step, read, read_plan};
 ghost use Rattle.entries.specs.Entries.{held_in, FitEntries, Edits};
@@ -70,7 +70,7 @@ fn edit_at(plan: &[u8], at: usize, e: &mut Entries) -> Result<usize, Refusal>
 pub fn walk_on(plan: &[u8], at: usize, e: &mut Entries) -> Result<usize, RefusedAt>
     requires { (at < length plan.now) × FitEntries e.old }
     ensures { Walks (held_in e.old) (step (going at (drop at plan.now) (held_in e.old))) result e.new
-        × IfOk result (λ on. on ≤ length plan.now) }
+        × IfOk result (λ on. on ≤ length plan.now) × IfErr result (λ x. x.place ≤ length plan.now) }
 {
     match edit_at(plan, at, e) {
         Ok(on) => Ok(on),
