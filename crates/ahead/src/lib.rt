@@ -35,6 +35,7 @@ impl Ahead {
 }
 
 // The wire time of a frame, 0 at a number that is no rate code.
+// Stays: its clause may not change, and `wire_time` is 0 there.
 pub fn wire_of(rate: u32, octets: u32) -> u32
     requires { octets ≤ 2_000 }
     ensures { (result ≡ wire_time rate octets) × (result ≤ 2_000_000) }
@@ -44,6 +45,7 @@ pub fn wire_of(rate: u32, octets: u32) -> u32
 
 // The streams beside own, all but the one at place leave, as rows of numbers: those of equal or higher priority, and of
 // the others the largest wire time. A place leave past them leaves none out.
+// Stays: its clause may not change, where `without` of a place past the end leaves none out.
 pub fn unpack(rate: u32, streams: &[Stream], own: Stream, leave: usize) -> Ahead
     requires { (length streams.now ≤ 64) × ((j : Stream) → Mem j streams.now → j.octets ≤ 2_000) }
     ensures { result ≡ ahead_of rate own (without leave streams.now) }

@@ -8,7 +8,7 @@ ghost use Rattle.answers.specs.Answers.{answer_number};
 use meaning::Refusal;
 
 // Document 01's number of a refusal.
-// Stays: no plainer as From, which would not say that the number is document 01's.
+// Stays: no plainer as From, which only `meaning`, the crate of the enum, could give, and that has no code.
 #[tactic(auto, unfolding(meaning::specs::Refusals::number_of))]
 pub fn number(why: Refusal) -> u64
     ensures { result ≡ number_of why }

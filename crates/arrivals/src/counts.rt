@@ -8,7 +8,8 @@ use crate::{Rows, frames_in, frames_wire, next_after, step};
 // When the next frame of each stream can come, the wire time of the frames counted, and the least next instant: with no
 // stream, the largest number. The shortest period tells which way to go on counting is the cheaper one, and nothing
 // more.
-// Stays: up to which instant they are counted (`Counted`) is a clause, since no field has it.
+// Stays: no plainer with `Counted` inside, which speaks of the rows and of an instant that no field has; and the
+// largest number is the least of no instants, where an Option would be told apart at each comparison.
 #[derive(Clone, Copy)]
 pub struct Counts {
     pub next: [u32; 64],

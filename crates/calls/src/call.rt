@@ -16,6 +16,7 @@ pub enum Call {
     Response(u64),
 }
 
+// Stays: numbers for kinds, since the program's output may not change.
 impl From<Call> for u64 {
     fn from(call: Call) -> u64 {
         match call {

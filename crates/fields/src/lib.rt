@@ -88,7 +88,7 @@ fn stream_at(plan: &[u8], at: usize) -> Result<Field, Refusal>
 }
 
 // The field at a place, by its tag: fewer than three octets are cut short, an unlisted tag is unknown.
-// Stays: document 01 names this form, a match on the tag with unlisted values refused by name.
+// Stays: a form that document 01 names (docs/DECISIONS.md): a match on the tag, others refused by name.
 pub fn field_at(plan: &[u8], at: usize) -> Result<Field, Refusal>
     requires { at ≤ length plan.now }
     ensures { result ≡ field_at (front (drop at plan.now)) }

@@ -1,7 +1,7 @@
 // The ranges of document 01: the numbers of a call are tested, and those in range are stored in 32 bits.
 #![tactic(auto)]
 
-ghost use Rattle.std.specs.Prelude.{◌≡◌, ◌<◌};
+ghost use Rattle.std.specs.Prelude.{◌≡◌, true, ℕ, ◌<◌};
 ghost use Rattle.meaning.specs.Ranges.{port_ranges, slot_ranges, stream_ranges, in_range};
 ghost use Rattle.ranges.specs.Numbers.{port_of, slot_of, stream_of, tested};
 
@@ -88,21 +88,56 @@ pub fn stream_in_range(limit: u64, j: StreamNumbers) -> bool
         && (1..=100_000_000).contains(&j.deadline)
 }
 
+// The numbers of a port, which are in range, in 32 bits.
+#[tactic(auto, unfolding(meaning::specs::Ranges::port_ranges, laws::specs::Lists::every))]
+pub fn narrow_port(p: PortNumbers) -> Port
+    requires { in_range (port_ranges (port_of p)) ≡ true }
+    ensures { result ≡ port_of p }
+{
+    Port {
+        rate: p.rate as u32,
+        cycle: p.cycle as u32,
+        guard: p.guard as u32,
+        header: p.header as u32,
+    }
+}
+
+// The numbers of a slot in 32 bits.
+pub fn narrow_slot(start: u64, end: u64) -> Slot
+    requires { (start < 4_294_967_296) × (end < 4_294_967_296) }
+    ensures { result ≡ slot_of start end }
+{
+    Slot {
+        start: start as u32,
+        end: end as u32,
+    }
+}
+
+// The numbers of a stream, which are in range, in 32 bits.
+#[tactic(auto, unfolding(meaning::specs::Ranges::stream_ranges, laws::specs::Lists::every))]
+pub fn narrow_stream(j: StreamNumbers) -> Stream
+    requires { (limit : ℕ) × (limit < 4_294_967_296) × (in_range (stream_ranges limit (stream_of j)) ≡ true) }
+    ensures { result ≡ stream_of j }
+{
+    Stream {
+        id: j.id as u32,
+        priority: j.priority as u32,
+        octets: j.octets as u32,
+        period: j.period as u32,
+        jitter: j.jitter as u32,
+        deadline: j.deadline as u32,
+    }
+}
+
 // The port that has these numbers, where they are in range.
 // Stays: no plainer as TryFrom, since a slot's range asks for the cycle too, and a stream's for the octet limit.
-#[tactic(auto, unfolding(meaning::specs::Ranges::port_ranges, laws::specs::Lists::every))]
 pub fn port(p: PortNumbers) -> Result<Port, Refusal>
     ensures { result ≡ tested (port_ranges (port_of p)) (port_of p) }
 {
     if !port_in_range(p) {
         return Err(Refusal::OutOfRange);
     }
-    Ok(Port {
-        rate: p.rate as u32,
-        cycle: p.cycle as u32,
-        guard: p.guard as u32,
-        header: p.header as u32,
-    })
+    Ok(narrow_port(p))
 }
 
 // The slot that has these numbers, where they are in range.
@@ -113,14 +148,10 @@ pub fn slot(cycle: u32, start: u64, end: u64) -> Result<Slot, Refusal>
     if !slot_in_range(cycle, start, end) {
         return Err(Refusal::OutOfRange);
     }
-    Ok(Slot {
-        start: start as u32,
-        end: end as u32,
-    })
+    Ok(narrow_slot(start, end))
 }
 
 // The stream that has these numbers, where they are in range, its octets up to a limit.
-#[tactic(auto, unfolding(meaning::specs::Ranges::stream_ranges, laws::specs::Lists::every))]
 pub fn stream(limit: u64, j: StreamNumbers) -> Result<Stream, Refusal>
     requires { limit < 4_294_967_296 }
     ensures { result ≡ tested (stream_ranges limit (stream_of j)) (stream_of j) }
@@ -128,12 +159,5 @@ pub fn stream(limit: u64, j: StreamNumbers) -> Result<Stream, Refusal>
     if !stream_in_range(limit, j) {
         return Err(Refusal::OutOfRange);
     }
-    Ok(Stream {
-        id: j.id as u32,
-        priority: j.priority as u32,
-        octets: j.octets as u32,
-        period: j.period as u32,
-        jitter: j.jitter as u32,
-        deadline: j.deadline as u32,
-    })
+    Ok(narrow_stream(j))
 }

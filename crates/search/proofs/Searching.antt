@@ -19,10 +19,11 @@ use Rattle.table.specs.declared.Stairs.{Stairs}
 use Rattle.arrivals.specs.declared.counts.Counts.{Counts}
 use Rattle.arrivals.specs.declared.rows.Rows.{Rows}
 use Rattle.arrivals.specs.Rows.{stream_at, row_load, RowsFit, RowsCounted}
+use Rattle.arrivals.specs.Counted.{Counted}
 use Rattle.search.specs.Asked.{Asked, OwnFits, own_stream, row_demand, row_busy}
 use Rattle.search.specs.declared.demand.Demand.{Demand}
 use Rattle.search.specs.declared.own.Own.{Own}
-use Rattle.search.specs.Searches.{table_of, all_of, TableBounds, asked_of, Counted, demand, busy, NoneCloses, Closes}
+use Rattle.search.specs.Searches.{table_of, all_of, TableBounds, asked_of, demand, busy, NoneCloses, Closes}
 use Rattle.arrivals.proofs.Counting.{rows_few, rows_on, rows_all}
 
 -- ---- interference

@@ -5,8 +5,6 @@ use Rattle.laws.proofs.Leasts.{Under}
 use Rattle.meaning.specs.declared.Stream.{Stream}
 use Rattle.table.specs.Lookup.{all_in, stairs_v}
 use Rattle.table.specs.declared.Stairs.{Stairs}
-use Rattle.arrivals.specs.Rows.{RowsCounted}
-use Rattle.arrivals.specs.declared.counts.Counts.{Counts}
 use Rattle.arrivals.specs.declared.rows.Rows.{Rows}
 use Rattle.search.specs.Asked.{Asked, asked, own_stream, row_demand, row_busy}
 use Rattle.search.specs.declared.own.Own.{Own}
@@ -34,10 +32,6 @@ asked_of o = asked o.lower o.wire o.period o.jitter
 
 abbrev pub asked_stream : Own → Stream
 asked_stream o = own_stream (asked_of o)
-
--- the frames of the rows' streams, counted up to x
-abbrev pub Counted : Rows → Counts → ℕ → Type 0
-Counted r seen x = RowsCounted r.per r.jit r.cost r.n seen x
 
 -- what a wait asks for, and what a busy window of own does
 abbrev pub demand : Stairs → Rows → (base off : ℕ) → ℕ → ℕ

@@ -4,7 +4,8 @@
 ghost use Rattle.std.specs.Prelude.{◌≡◌, ◌≤◌};
 ghost use Rattle.laws.specs.Numbers.{Least};
 ghost use Rattle.laws.proofs.Leasts.{Under};
-ghost use Rattle.search.specs.Searches.{Counted, demand, busy, Settled, Closes};
+ghost use Rattle.arrivals.specs.Counted.{Counted};
+ghost use Rattle.search.specs.Searches.{demand, busy, Settled, Closes};
 
 mod demand;
 mod hasten;

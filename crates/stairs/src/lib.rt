@@ -15,6 +15,7 @@ use meaning::Run;
 use table::Table;
 
 // The least leaf of a row that has no pair left: its key, times 32.
+// Stays: no plainer as an Option, since the tree then compares one number no longer.
 const DONE: u64 = 576_460_752_303_423_488;
 
 // A pair of row i as a leaf, which is its key times 32, plus i: the nearer pair has the smaller one, and of two as near
@@ -50,7 +51,7 @@ fn distance(cycle: u32, s: u32, e: u32) -> u32
 }
 
 // The j-th run behind run i, around.
-// Stays: measured slower as (i + j) % n, a division for each pair.
+// By a comparison: (i + j) % n would divide for each pair.
 fn behind(i: usize, j: usize, n: usize) -> usize
     requires { (i < n) × (j < n) × (n ≤ 32) }
     ensures { (result ≡ (i + j) % n) × (result < n) }

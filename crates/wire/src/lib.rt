@@ -13,7 +13,7 @@ pub struct UnknownRate;
 const EXTRA: u64 = 8;
 
 // The time of ten octets in ns, by the rate code.
-// Stays: document 01 names this form, a match on the rate code with unlisted values refused by name.
+// Stays: a form that document 01 names (docs/DECISIONS.md): a match on the rate code, others refused by name.
 #[tactic(auto, unfolding(crate::specs::Timing::timed, meaning::specs::Wire::ten_octets))]
 pub fn ten_octets(rate: u64) -> Result<u64, UnknownRate>
     ensures { result ≡ timed rate (ten_octets rate) }

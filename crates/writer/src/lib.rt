@@ -13,6 +13,7 @@ use meaning::{Port, Refusal, Slot, Stream};
 use room::{AsField, put_all};
 
 // The plan of a desk at the front of the room, and how many octets it took.
+// Stays: its own test for an open port, no plainer through `questions`, which a writer has no other use for.
 fn put_plan(d: &Desk, out: &mut [u8]) -> Result<usize, Refusal>
     requires { Fit d.now }
     ensures { Puts (write_plan out.old (held d.now)) result out.old out.new }

@@ -1,6 +1,7 @@
 -- The invariant: so many frames are done, and what is counted has come by w.
 use Rattle.std.proofs.Common.{◌≤◌}
-use Rattle.search.specs.Searches.{table_of, asked_of, Counted}
+use Rattle.arrivals.specs.Counted.{Counted}
+use Rattle.search.specs.Searches.{table_of, asked_of}
 use Rattle.frames.proofs.Framing.{FrameNumbers, FramesDone}
 use Rattle.frames.proofs.worst.Given as goal
 

@@ -1,6 +1,6 @@
 -- The invariant: what is counted of the rows without jitter has come by w.
 use Rattle.std.proofs.Common.{◌≤◌}
-use Rattle.search.specs.Searches.{Counted}
+use Rattle.arrivals.specs.Counted.{Counted}
 use Rattle.bound.proofs.enough.enough.Given as goal
 
 abbrev pub invariant-loop : goal.invariant-loop

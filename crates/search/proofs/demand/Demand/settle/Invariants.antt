@@ -2,7 +2,8 @@
 -- horizon, which it never passes.
 use Rattle.std.proofs.Common.{◌-◌, ◌≤◌}
 use Rattle.laws.proofs.Leasts.{Under}
-use Rattle.search.specs.Searches.{Counted, demand}
+use Rattle.arrivals.specs.Counted.{Counted}
+use Rattle.search.specs.Searches.{demand}
 use Rattle.search.proofs.demand.Demand.settle.Given as goal
 
 abbrev pub invariant-loop-base : goal.invariant-loop-base

@@ -2,7 +2,8 @@
 -- horizon.
 use Rattle.std.proofs.Common.{◌-◌, ◌≤◌}
 use Rattle.laws.proofs.Leasts.{Under}
-use Rattle.search.specs.Searches.{Counted, busy}
+use Rattle.arrivals.specs.Counted.{Counted}
+use Rattle.search.specs.Searches.{busy}
 use Rattle.search.proofs.demand.Demand.window.Given as goal
 
 abbrev pub invariant-loop-seen : goal.invariant-loop-seen
