@@ -34,18 +34,18 @@ overflow_mul-n g c =
 pub overflow_add-n : goal.overflow_add-n
 overflow_add-n g c =
     let l = c.loop-octet in
-    let i = within c.args.at g.row.N l.octet-index c.args.plan.now c.requires.1 c.loop-octet-test.true in
-    let here = octet c.args.at g.row.N l.octet-index c.args.plan.now i in
+    let j = within c.args.at g.row.N l.octet-index c.args.plan.now c.requires.1 c.loop-octet-test.true in
+    let here = octet c.args.at g.row.N l.octet-index c.args.plan.now j in
     let small : c.from.result < 256 =
     omega (arith, c.from.ensures, here, c.type_inv.plan (c.args.at + l.octet-index)) in
-    omega (arith, fits l.n c.from.result l.octet-index l.invariant.1 small (omega (arith, i, c.requires.0)))
+    omega (arith, fits l.n c.from.result l.octet-index l.invariant.1 small (omega (arith, j, c.requires.0)))
 
 pub loop-octet-preserved : goal.loop-octet-preserved
 loop-octet-preserved g c =
     let l = c.loop-octet in
-    let i = within c.args.at g.row.N l.octet-index c.args.plan.now c.requires.1 c.loop-octet-test.true in
-    let here = octet c.args.at g.row.N l.octet-index c.args.plan.now i in
-    let small : c.from.result < 256 =
-    omega (arith, c.from.ensures, here, c.type_inv.plan (c.args.at + l.octet-index)) in
-    number_turn c.args.at l.octet-index l.n c.args.plan.now c.from.result (omega (arith, i, c.requires.1))
-    (c.from.ensures ∙ here) small l.invariant
+    let k = within c.args.at g.row.N l.octet-index c.args.plan.now c.requires.1 c.loop-octet-test.true in
+    let there = octet c.args.at g.row.N l.octet-index c.args.plan.now k in
+    let low : c.from.result < 256 =
+    omega (arith, c.from.ensures, there, c.type_inv.plan (c.args.at + l.octet-index)) in
+    number_turn c.args.at l.octet-index l.n c.args.plan.now c.from.result (omega (arith, k, c.requires.1))
+    (c.from.ensures ∙ there) low l.invariant
