@@ -110,7 +110,8 @@ module _ (per jit cost : List ℕ) (x : ℕ) where
   count_starts next least past = (λ k h. absurd (omega arith), refl, λ k h. absurd (omega arith), past)
 
   -- one stream more: its next instant s, the wire time g of its frames, and the least l of the instants so far and s
-  pub count_more : (i : ℕ) (next : List ℕ) (load least s g l : ℕ) → CountedAt per jit cost x i next load least → i < length next
+  pub count_more : (i : ℕ) (next : List ℕ) (load least s g l : ℕ)
+      → CountedAt per jit cost x i next load least → i < length next
       → s ≡ next_of (stream_at per jit i) x → x < s → g ≡ most_in (stream_at per jit i) x * get_or cost i 0
       → l ≡ min least s → CountedAt per jit cost x (i + 1) (set next i s) (load + g) l
   unfolding row_load

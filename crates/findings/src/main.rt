@@ -42,8 +42,8 @@ fn fill<R: Read>(input: &mut R, buf: &mut [u8]) -> io::Result<usize>
     Ok(n)
 }
 
-// The findings of an input, in front of a room for their text: of the whole input, from its first 4,096 octets. The room
-// stays as it is where a read fails.
+// The findings of an input, in front of a room for their text: of the whole input, from its first 4,096 octets. The
+// room stays as it is where a read fails.
 fn answer<R: Read>(input: &mut R, text: &mut [u8]) -> io::Result<usize>
     requires { 32_768 ≤ length text.old }
     ensures in_bounds { IfOk result (λ k. k ≤ length text.new) }

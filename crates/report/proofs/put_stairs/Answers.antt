@@ -35,7 +35,8 @@ loop-far-preserved c =
     c.next.ensures.steps in
     rw (length_push now.yielded (c.in-Some.far, c.in-Some.total))
     (stair_turn s.far.now s.tot.now c.args.out.now c.requires now.out now.at _ now.invariant
-    (record { far = c.in-Some.far.now; total = c.in-Some.total.now }) t.0 t.1 (t.2 0) (t.3 0) _ _ c.put_stair-at.ensures)
+    (record { far = c.in-Some.far.now; total = c.in-Some.total.now }) t.0 t.1 (t.2 0) (t.3 0) _ _
+    c.put_stair-at.ensures)
 
 pub returns : goal.returns
 returns c =

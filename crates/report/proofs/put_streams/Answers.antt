@@ -27,7 +27,8 @@ pub loop-j-preserved : goal.loop-j-preserved
 loop-j-preserved c =
     let l = c.loop-j in
     stream_turn c.args.d.now c.requires.0 c.requires.1 c.args.out.now c.requires.2 l.out l.at l.j-index l.invariant
-    c.loop-j-test.true _ _ refl c.response-reply.result (rw c.from.ensures at c.response-reply.ensures.0) _ _ c.put_stream-at.ensures
+    c.loop-j-test.true _ _ refl c.response-reply.result (rw c.from.ensures at c.response-reply.ensures.0) _ _
+    c.put_stream-at.ensures
 
 pub returns : goal.returns
 returns c =

@@ -23,7 +23,8 @@ rows_bound-requires c =
     let a = c.args in
     let o = asked a.lower a.wire a.period a.jitter in
     let fit = c.requires.table in
-    subst (λ v. RowsAsk v (all_in (take a.m a.tot.now) (length (take a.m a.tot.now))) o a.per.now a.jit.now a.cost.now a.n)
+    let lent = take a.m a.tot.now in
+    subst (λ v. RowsAsk v (all_in lent (length lent)) o a.per.now a.jit.now a.cost.now a.n)
     (sym (v_is a.cycle a.far.now a.tot.now a.m fit))
     (subst (λ x. RowsAsk (table_v a.cycle a.far.now a.tot.now a.m) x o a.per.now a.jit.now a.cost.now a.n)
     (sym (all_is a.cycle a.far.now a.tot.now a.m fit)) c.requires.asks)

@@ -48,7 +48,8 @@ invariant_of-more c =
     let e = c.args.self.now in
     let o = open_entries e c.requires.0 c.requires.1 in
     let apart : any (overlaps c.args.s) (slots_in e) ≡ false = cc (any_list (overlaps c.args.s) (slots_in e)) in
-    record { fits = may_test_free e c.args.s o _ c.insert.ensures _ c.gate.ensures c.requires.2 c.if-n-ge32.false apart }
+    let fits = may_test_free e c.args.s o _ c.insert.ensures _ c.gate.ensures c.requires.2 c.if-n-ge32.false apart in
+    record { fits = fits }
 
 pub returns-then-not-some_free : goal.returns-then-not-some_free
 returns-then-not-some_free c =

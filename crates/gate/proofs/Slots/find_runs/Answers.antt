@@ -1,5 +1,5 @@
--- `gate::Slots::find_runs` meets its contract: the runs behind the first slot, and its own last where its guard reaches back
--- over the cycle's end.
+-- `gate::Slots::find_runs` meets its contract: the runs behind the first slot, and its own last where its guard reaches
+-- back over the cycle's end.
 use Rattle.std.proofs.Common.{ap, sym, ◌∙◌, length, take, arith}
 use Rattle.gate.specs.Rows.{run_row}
 use Rattle.gate.proofs.Hangs.{no_slot}

@@ -11,8 +11,9 @@ loop-i-init c = hangs_none _ _ _ c.args.self.now.fits.few
 
 pub overflow_add-s : goal.overflow_add-s
 overflow_add-s c =
-    let f = c.args.self.now.fits.gate in
-    let w = within 0 0 c.args.self.now.gate.cycle c.args.self.now.slots.now c.args.self.now.fits.chain (c.loop-i.i - 1) (omega arith) in
+    let now = c.args.self.now in
+    let f = now.fits.gate in
+    let w = within 0 0 now.gate.cycle now.slots.now now.fits.chain (c.loop-i.i - 1) (omega arith) in
     omega (arith, f.cycle_most, f.guard_most, f.header_most, w.near, w.far)
 
 pub loop-i-preserved : goal.loop-i-preserved

@@ -7,20 +7,24 @@ use Rattle.gate.proofs.Turns.{free_start, wide_here, wide_later, wide_none}
 use Rattle.gate.proofs.Slots.some_free.Goals as goal
 
 pub returns-in_default : goal.returns-in_default
-returns-in_default c = sym (free_none c.args.self.now.gate c.args.self.now.slots.now c.in_default.ensures.item.3 c.args.self.now.fits.gate.cycle_least)
+returns-in_default c =
+    let now = c.args.self.now in
+    sym (free_none now.gate now.slots.now c.in_default.ensures.item.3 now.fits.gate.cycle_least)
 
 pub loop-s-init : goal.loop-s-init
 loop-s-init c =
-    let ss = c.args.self.now.slots.now in
+    let now = c.args.self.now in
+    let ss = now.slots.now in
     let (some, at) = c.in-Some.ensures.item.3 in
-    let x = within 0 0 c.args.self.now.gate.cycle ss c.args.self.now.fits.chain (length ss - 1) (omega arith) in
+    let x = within 0 0 now.gate.cycle ss now.fits.chain (length ss - 1) (omega arith) in
     let e = at no_slot in
-    (omega (arith, x.near, x.far, ap (λ (s : Slot). s.end) e), rw e (free_start c.args.self.now.gate ss c.args.self.now.fits.chain some))
+    (omega (arith, x.near, x.far, ap (λ (s : Slot). s.end) e), rw e (free_start now.gate ss now.fits.chain some))
 
 pub overflow_add-s : goal.overflow_add-s
 overflow_add-s c =
-    let x = within 0 0 c.args.self.now.gate.cycle c.args.self.now.slots.now c.args.self.now.fits.chain c.loop-s.s-index c.loop-s-test.true in
-    omega (arith, x.some, x.near, x.far, c.args.self.now.fits.gate.cycle_most)
+    let now = c.args.self.now in
+    let x = within 0 0 now.gate.cycle now.slots.now now.fits.chain c.loop-s.s-index c.loop-s-test.true in
+    omega (arith, x.some, x.near, x.far, now.fits.gate.cycle_most)
 
 pub returns-then-before-reach : goal.returns-then-before-reach
 returns-then-before-reach c =
@@ -28,12 +32,14 @@ returns-then-before-reach c =
 
 pub overflow_add-before-in-loop-s : goal.overflow_add-before-in-loop-s
 overflow_add-before-in-loop-s c =
-    let x = within 0 0 c.args.self.now.gate.cycle c.args.self.now.slots.now c.args.self.now.fits.chain c.loop-s.s-index c.loop-s-test.true in
-    omega (arith, x.near, x.far, c.args.self.now.fits.gate.cycle_most)
+    let now = c.args.self.now in
+    let x = within 0 0 now.gate.cycle now.slots.now now.fits.chain c.loop-s.s-index c.loop-s-test.true in
+    omega (arith, x.near, x.far, now.fits.gate.cycle_most)
 
 pub loop-s-preserved : goal.loop-s-preserved
 loop-s-preserved c =
-    let x = within 0 0 c.args.self.now.gate.cycle c.args.self.now.slots.now c.args.self.now.fits.chain c.loop-s.s-index c.loop-s-test.true in (
+    let now = c.args.self.now in
+    let x = within 0 0 now.gate.cycle now.slots.now now.fits.chain c.loop-s.s-index c.loop-s-test.true in (
       omega (arith, x.near, x.far),
       c.loop-s.invariant.1 ∙ wide_later _ _ _ _ c.loop-s-test.true c.if-before-reach.false,
     )

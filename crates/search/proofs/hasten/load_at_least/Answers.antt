@@ -16,6 +16,7 @@ loop-i-preserved c =
     let few = c.frames_at_least.ensures.0 period (omega (arith, r.fit.periods l.i here)) (c.requires.0 l.i here) in
     let same = ap (λ j. most_in (row_stream period j) a.x) (get_or-take r.n r.jit l.i 0 here) in (
       rw c.frames_wire-load.ensures.0
-          (row_load_under r.per r.jit r.cost a.x l.i l.load c.frames_at_least.result l.invariant.0 (omega (arith, few, same))),
+          (row_load_under r.per r.jit r.cost a.x l.i l.load c.frames_at_least.result l.invariant.0
+          (omega (arith, few, same))),
       omega (arith, c.frames_wire-load.ensures.1),
     )

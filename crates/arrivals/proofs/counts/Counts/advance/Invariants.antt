@@ -1,5 +1,5 @@
--- `arrivals::counts::Counts::advance` meets its contract. The invariant: what is counted has come by x. The measure: how
--- far the least next instant is from being past x.
+-- `arrivals::counts::Counts::advance` meets its contract. The invariant: what is counted has come by x. The measure:
+-- how far the least next instant is from being past x.
 use Prim.Native.Nat.{◌+◌, ◌-◌}
 use Rattle.arrivals.specs.Counted.{Counted}
 use Rattle.arrivals.proofs.counts.Counts.advance.Given as goal

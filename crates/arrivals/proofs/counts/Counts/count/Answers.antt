@@ -25,7 +25,8 @@ loop-i-preserved c =
     let l = c.loop-i in
     let below : l.i < rows.n = omega (arith, length-take rows.n c.args.self.now.next) in
     let cost = get_or rows.cost l.i 0 in
-    let near = next_near c.args.x (get_or rows.per l.i 0) (get_or rows.jit l.i 0) c.requires (rows.fit.periods l.i below).0 in
+    let near =
+    next_near c.args.x (get_or rows.per l.i 0) (get_or rows.jit l.i 0) c.requires (rows.fit.periods l.i below).0 in
     count_more rows.per rows.jit rows.cost c.args.x l.i l.next-items l.load l.least c.next_after.result
     c.frames_wire-load.result c.min-least.result l.invariant (omega arith) c.next_after.ensures.0
     (rw c.next_after.ensures.0 near.0)
