@@ -34,7 +34,18 @@ pub fn rows_bound(rows: &Rows, stairs: &Stairs, own: &Own) -> Option<u32>
     };
     let b = demand.window(own)?;
     let all = own.frames_in(b) + 1 - own.frames_in(0);
-    let few = enough(&demand, own, all);
+    let jit = [0; 64];
+    let calm_rows = Rows {
+        n: rows.n,
+        per: rows.per,
+        jit,
+        cost: rows.cost,
+    };
+    let calm = Demand {
+        rows: &calm_rows,
+        stairs: *stairs,
+    };
+    let few = enough(&calm, own, all);
     Some(worst(&demand, own, few))
 }
 

@@ -3,7 +3,7 @@
 use Rattle.std.proofs.Common.{◌≡◌, ℕ, ◌+◌, ◌-◌, replicate, ap₂, arith}
 use Rattle.search.specs.Searches.{table_of, asked_of, asked_stream}
 use Rattle.meaning.proofs.Arrivals.{counted, most_grows}
-use Rattle.bound.proofs.Bounding.{zeros_in, endless_first, endless_window, beside_in, bound_within}
+use Rattle.bound.proofs.Bounding.{zeros_in, calm_fits, endless_first, endless_window, beside_in, bound_within}
 use Rattle.bound.proofs.rows_bound.Goals as goal
 
 pub returns-then-interference-gt-HORIZON : goal.returns-then-interference-gt-HORIZON
@@ -22,6 +22,11 @@ invariant_of-demand c =
             grows = c.requires.v_grows;
           };
     }
+
+pub invariant_of-calm_rows : goal.invariant_of-calm_rows
+invariant_of-calm_rows c =
+    let r = c.args.rows.now in
+    record { fit = calm_fits r.per r.jit r.cost (replicate 64 0) r.n r.fit (zeros_in r.n r.fit.few) }
 
 pub returns-in_err-b : goal.returns-in_err-b
 returns-in_err-b c =

@@ -1,25 +1,16 @@
 -- `bound::enough::enough` meets its contract.
-use Rattle.std.proofs.Common.{ℕ, ◌*◌, replicate, sym, ap, ◌∙◌, inr, arith}
+use Rattle.std.proofs.Common.{ℕ, ◌*◌, sym, ap, ◌∙◌, inr, arith}
 use native.Mathlib.Nat.{zero-add}
 use Rattle.meaning.specs.Arrivals.{most_in}
-use Rattle.arrivals.specs.Rows.{RowsFit}
-use Rattle.arrivals.specs.declared.rows.Rows.{Rows}
 use Rattle.arrivals.proofs.Counting.{rows_on}
 use Rattle.search.specs.Asked.{own_stream, calm_own}
 use Rattle.search.specs.Searches.{table_of, asked_of}
 use Rattle.search.proofs.Searching.{tried_busy}
-use Rattle.bound.proofs.Bounding.{zeros_in, calm_fits}
 use Rattle.bound.proofs.enough.enough.Goals as goal
-
-fit : (r : Rows) → RowsFit r.per (replicate 64 0) r.cost r.n
-fit r = calm_fits r.per r.jit r.cost (replicate 64 0) r.n r.fit (zeros_in r.n r.fit.few)
-
-pub invariant_of-rows : goal.invariant_of-rows
-invariant_of-rows c = record { fit = fit c.args.demand.now.rows.now }
 
 pub returns-then-need-from : goal.returns-then-need-from
 returns-then-need-from c =
-    let d = c.args.demand.now in
+    let d = c.args.calm.now in
     let r = d.rows.now in
     let calm = calm_own (asked_of c.args.own.now) in
     let w = c.loop.w in
@@ -28,15 +19,15 @@ returns-then-need-from c =
     let none =
     c.frames_wire.ensures.0 ∙ ap (λ (q : ℕ). q * calm.wire) k.ensures.0 ∙ sym (zero-add (most * calm.wire)) in
     let busy =
-    tried_busy (table_of d.stairs) r.per (replicate 64 0) r.cost r.n calm c.frames_wire.result w none in (
+    tried_busy (table_of d.stairs) r.per r.jit r.cost r.n calm c.frames_wire.result w none in (
       inr (w, omega (arith, c.attempt-need.ensures.1, busy), omega (arith, k.ensures.0)),
       omega arith,
     )
 
 pub loop-preserved : goal.loop-preserved
 loop-preserved c =
-    let r = c.args.demand.now.rows.now in
+    let r = c.args.calm.now.rows.now in
     let t = c.attempt-need in (
-      rows_on r.per (replicate 64 0) r.cost r.n (fit r) t.new.seen c.loop.w t.ensures.0 t.result (omega arith),
+      rows_on r.per r.jit r.cost r.n r.fit t.new.seen c.loop.w t.ensures.0 t.result (omega arith),
       omega arith,
     )

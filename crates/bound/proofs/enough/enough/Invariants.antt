@@ -1,4 +1,4 @@
--- The invariant: what is counted of the rows without jitter has come by w.
+-- The invariant: what is counted of the rows has come by w.
 use Rattle.std.proofs.Common.{◌≤◌}
 use Rattle.arrivals.specs.Counted.{Counted}
 use Rattle.bound.proofs.enough.enough.Given as goal
