@@ -47,12 +47,6 @@ module _ (e : Entries) (s : Slot) where
     add_slot_out_of_range r = rw h.holds (says.out_of_range.1 r)
 
     module _ (r : in_range (slot_ranges e.cycle s) ≡ true) where
-      pub slot_in_32_bits : (s.start < 4_294_967_296) × (s.end < 4_294_967_296)
-      slot_in_32_bits =
-          let b = (slot_in e.cycle s).0 r in
-          let c = (port_in_lem (port_in e)).0 h.sound.port_in in
-          (omega arith, omega arith)
-
       pub add_slot_full : 32 ≤ e.nslots → add_slot s (held_in e) ≡ refused Full
       unfolding most_slots
       add_slot_full n = rw h.holds (says.full.1 (r, omega (arith, h.slots_count)))

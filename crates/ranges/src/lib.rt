@@ -141,7 +141,6 @@ pub fn port(p: PortNumbers) -> Result<Port, Refusal>
 }
 
 // The slot that has these numbers, where they are in range.
-#[tactic(auto, unfolding(meaning::specs::Ranges::slot_ranges, laws::specs::Lists::every))]
 pub fn slot(cycle: u32, start: u64, end: u64) -> Result<Slot, Refusal>
     ensures { result ≡ tested (slot_ranges cycle (slot_of start end)) (slot_of start end) }
 {

@@ -8,7 +8,7 @@ use Prim.Native.Nat.{ℕ, ◌-◌, ◌≤◌}
 use native.Mathlib.Nat.{mul-le-mul}
 use native.Mathlib.Decide.{dec_le}
 use native.Mathlib.Omega.{arith}
-use lib.ListN.{length, length-map}
+use lib.ListN.{length, length-map, take}
 use Rattle.laws.specs.Lists.{filled, RisingBy}
 use Rattle.meaning.specs.declared.Gate.{Gate}
 use Rattle.meaning.specs.declared.Slot.{Slot}
@@ -18,9 +18,10 @@ use Rattle.meaning.specs.Interference.{all_len, by_stairs, interference, stairs}
 use Rattle.meaning.proofs.Cells.{free_cell}
 use Rattle.meaning.proofs.Windows.{covering}
 use Rattle.meaning.proofs.Gates.{slots_stairway, slots_by_stairs}
-use Rattle.table.specs.Lookup.{stairs_in, all_in, TableFits, DemandThree}
+use Rattle.table.specs.Lookup.{stairs_in, all_in, stairs_v, TableFits, DemandThree}
 use Rattle.laws.proofs.Rows.{filled_length}
 use Rattle.table.proofs.Stored.{rows_long, last_all, rows_rise, rows_hold}
+use Rattle.table.proofs.Reached.{lent_v}
 
 -- at most 32 runs, at most 993 stairs
 pub stairs_few : (g : Gate) (ss : List Slot) → length (runs g ss) ≤ 32 → length (stairs g ss) ≤ 993
@@ -50,7 +51,7 @@ module _ (g : Gate) (ss : List Slot) (far tot : List ℕ) (n : ℕ)
   rows_give_interference t =
       ap₂ (λ (x : ℕ) (st : List Stair). by_stairs g.cycle x st t) all_is held ∙ sym (slots_by_stairs g ss t)
 
-  -- demand 3, of the answers of `table::interference` for such rows
+  -- demand 3, of what is read from such rows
   pub demand_three : has_free g ss ≡ true → DemandThree g ss (by_stairs g.cycle (all_in tot n) (stairs_in far tot n))
   demand_three free =
       let cells = covering g ss free in
@@ -58,6 +59,18 @@ module _ (g : Gate) (ss : List Slot) (far tot : List ℕ) (n : ℕ)
         at_most = λ a t. omega (arith, cells.at_most a t, rows_give_interference t);
         exact = rows_give_interference;
         met = λ c t on. let (r, m, e) = cells.met c t on in (r, m, e ∙ sym (rows_give_interference t));
+      }
+
+  -- demand 3, of the answers of `table::Stairs::interference` where the first n of such rows are lent
+  pub demand_three_lent : has_free g ss ≡ true → TableFits g.cycle far tot n
+      → DemandThree g ss (stairs_v g.cycle (take n far) (take n tot))
+  demand_three_lent free fit =
+      let d = demand_three free in
+      let v = lent_v g.cycle far tot n fit in
+      record {
+        at_most = λ a t. omega (arith, d.at_most a t, v t);
+        exact = λ t. v t ∙ d.exact t;
+        met = λ c t on. let (r, m, e) = d.met c t on in (r, m, e ∙ sym (v t));
       }
 
   -- such rows fit, where they are 993 long and there are at most 32 runs
