@@ -11,8 +11,8 @@ use table::Stairs;
 
 // What the desk holds, without its stairs.
 // Stays: field by field, since the C interface has the desk flat.
-pub fn entries_of(d: &Desk) -> Entries
-    ensures { result ≡ entries_in d.now }
+pub fn entries_of(d: Desk) -> Entries
+    ensures { result ≡ entries_in d }
 {
     let slots = d.slots;
     let streams = d.streams;

@@ -10,7 +10,8 @@ ghost use Rattle.meaning.specs.Calls.{ask_runs, ask_stairs, ask_interference};
 ghost use Rattle.gate.specs.Rows.{run_row};
 ghost use Rattle.table.specs.Rows.{table_of};
 ghost use Rattle.answers.specs.Answers.{answer_of};
-ghost use Rattle.desk.specs.Desks.{held, Fit};
+ghost use Rattle.table.specs.Lookup.{stairs_v};
+ghost use Rattle.desk.specs.Desks.{held, Fit, far_in, tot_in};
 ghost use Rattle.questions.specs.Replies.{answer_by, runs_reply, stairs_reply, figure_reply};
 
 use desk::{Desk, Reply};
@@ -38,7 +39,7 @@ fn runs_of(d: &Desk) -> Result<RunRow, Refusal>
     ensures { result ≡ answer_by run_row (ask_runs (held d.now)) }
 {
     opened(d)?;
-    let e = desk::entries_of(d);
+    let e = desk::entries_of(*d);
     Ok(e.chain().find_runs())
 }
 
@@ -57,16 +58,25 @@ fn stairs_of(d: &Desk) -> Result<Table, Refusal>
     })
 }
 
-// V(t), read from the stairs that the desk stores.
-fn figure_of(d: &Desk, t: u64) -> Result<u64, Refusal>
-    requires { Fit d.now }
-    ensures { result ≡ answer_of (ask_interference t (held d.now)) }
+// V(t), read from the stairs that an open desk stores. Lending them costs a copy of the desk, so it stands apart from
+// the calls that are refused.
+fn stored_figure(d: Desk, t: u32) -> u64
+    requires { Fit d × (d.opened ≡ true) }
+    ensures { result ≡ stairs_v d.cycle (far_in d) (tot_in d) t }
 {
-    opened(d)?;
+    desk::stairs_of(&d).interference(t)
+}
+
+// V(t), up to the horizon.
+fn figure_of(d: Desk, t: u64) -> Result<u64, Refusal>
+    requires { Fit d }
+    ensures { result ≡ answer_of (ask_interference t (held d)) }
+{
+    opened(&d)?;
     if HORIZON < t {
         return Err(Refusal::OverHorizon);
     }
-    Ok(desk::stairs_of(d).interference(t as u32))
+    Ok(stored_figure(d, t as u32))
 }
 
 // The blocked runs, by rising start.
@@ -92,6 +102,6 @@ pub fn interference(d: Desk, t: u64) -> Reply<u64>
     requires { Fit d }
     ensures { (result ≡ figure_reply (asked (held d) (ask_interference t (held d)))) × Fit result.desk }
 {
-    let answer = figure_of(&d, t);
+    let answer = figure_of(d, t);
     Reply { answer, desk: d }
 }

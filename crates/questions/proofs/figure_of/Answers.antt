@@ -1,5 +1,5 @@
 -- `questions::figure_of` meets its contract: the stairs of a fit open desk give V, up to the horizon.
-use mathlib.Core.Path.{refl, sym, ap}
+use mathlib.Core.Path.{sym, ap}
 use Rattle.meaning.specs.declared.Refusal.TheVariants.{OutOfTurn}
 use Rattle.meaning.specs.Ranges.{horizon}
 use Rattle.answers.specs.Answers.{answer_of}
@@ -10,20 +10,17 @@ pub returns-in_err-opened : goal.returns-in_err-opened
 returns-in_err-opened c =
     let (why, shut) = c.in_err-opened.ensures in
     handed_on _ _ _ OutOfTurn c.from_residual.ensures.1 why
-    (ap answer_of (figure_closed c.args.d.now shut c.args.t))
+    (ap answer_of (figure_closed c.args.d shut c.args.t))
 
 pub returns-then-t-gt-HORIZON : goal.returns-then-t-gt-HORIZON
 unfolding horizon
 returns-then-t-gt-HORIZON c =
-    sym (ap answer_of (figure_over c.args.d.now c.requires c.in_ok-opened.ensures c.args.t c.if-t-gt-HORIZON.true))
+    sym (ap answer_of (figure_over c.args.d c.requires c.in_ok-opened.ensures c.args.t c.if-t-gt-HORIZON.true))
 
-pub stairs_of-requires : goal.stairs_of-requires
-stairs_of-requires c = (c.requires, c.in_ok-opened.ensures)
+pub stored_figure-requires : goal.stored_figure-requires
+stored_figure-requires c = (c.requires, c.in_ok-opened.ensures)
 
 pub returns : goal.returns
 unfolding horizon
 returns c =
-    let d = c.args.d.now in
-    let (cycle, far, tot) = c.stairs_of.ensures in
-    figure_open d c.requires c.in_ok-opened.ensures c.args.t c.if-t-gt-HORIZON.false _
-    (rw (c.interference.ensures, cycle, far, tot) refl)
+    figure_open c.args.d c.requires c.in_ok-opened.ensures c.args.t c.if-t-gt-HORIZON.false _ c.stored_figure.ensures

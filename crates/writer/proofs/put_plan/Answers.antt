@@ -1,5 +1,6 @@
 -- `writer::put_plan` meets its contract: where the whole plan has room, each field fills the front of what is left.
 use Rattle.std.proofs.Common.{◌≡◌, ℕ, List, ◌++◌, ◌+◌, ◌*◌, length, ◌∙◌, arith, length-append}
+use borrow.Author.Tests.{not-true, not-false}
 use Rattle.meaning.specs.Bytes.{Field, field_length, port_field, slot_field, field_octets}
 use Rattle.meaning.proofs.Fields.{field_length_lem}
 use Rattle.desk.specs.declared.Desk.{Desk}
@@ -18,40 +19,53 @@ with_row : {A : Type 0} (field : A → Field) (k : ℕ) → ((x : A) → field_l
 with_row field k each w xs = omega (arith, row_octets field k each xs, length-append w (octets_of_row field xs))
 
 pub returns-then-not-d : goal.returns-then-not-d
-returns-then-not-d c = put_closed c.args.d.now c.requires c.args.out.now c.if-not-d.true
+returns-then-not-d c = put_closed c.args.d c.requires c.args.out.now (not-true _ c.if-not-d.true)
 
-pub shared_ref_as_front-slots : goal.shared_ref_as_front-slots
-shared_ref_as_front-slots c = (open_of c.args.d.now c.requires c.if-not-d.false).slots_few
+pub plan_octets-all-requires : goal.plan_octets-all-requires
+plan_octets-all-requires c =
+    let h = open_of c.args.d c.requires (not-false _ c.if-not-d.false) in
+    (h.slots_few, h.streams_few)
 
-pub shared_ref_as_front-streams : goal.shared_ref_as_front-streams
-shared_ref_as_front-streams c = (open_of c.args.d.now c.requires c.if-not-d.false).streams_few
+pub slice_bounds-slot_row-end : goal.slice_bounds-slot_row-end
+slice_bounds-slot_row-end c = omega (arith, (open_of c.args.d c.requires (not-false _ c.if-not-d.false)).slots_few)
+
+pub slice_bounds-slots-end : goal.slice_bounds-slots-end
+slice_bounds-slots-end c = omega (arith, (open_of c.args.d c.requires (not-false _ c.if-not-d.false)).slots_count)
+
+pub slice_bounds-stream_row-end : goal.slice_bounds-stream_row-end
+slice_bounds-stream_row-end c = omega (arith, (open_of c.args.d c.requires (not-false _ c.if-not-d.false)).streams_few)
+
+pub slice_bounds-streams-end : goal.slice_bounds-streams-end
+slice_bounds-streams-end c = omega (arith, (open_of c.args.d c.requires (not-false _ c.if-not-d.false)).streams_count)
 
 pub returns-then-out-all : goal.returns-then-out-all
 returns-then-out-all c =
-    let h = open_of c.args.d.now c.requires c.if-not-d.false in
-    put_no_room c.args.d.now c.requires c.args.out.now c.if-not-d.false
-    (omega (arith, c.if-out-all.true, h.slots_count, h.streams_count))
+    let h = open_of c.args.d c.requires (not-false _ c.if-not-d.false) in
+    put_no_room c.args.d c.requires c.args.out.now (not-false _ c.if-not-d.false)
+    (omega (arith, c.if-out-all.true, c.plan_octets-all.ensures, h.slots_count, h.streams_count))
 
 pub put-at-requires : goal.put-at-requires
-put-at-requires c = (omega (arith, c.if-out-all.false), rate_fits c.args.d.now c.requires c.if-not-d.false)
+put-at-requires c = (omega (arith, c.if-out-all.false, c.plan_octets-all.ensures), rate_fits c.args.d c.requires (not-false _ c.if-not-d.false))
 
 pub put_all-at-requires-clause-room : goal.put_all-at-requires-clause-room
 put_all-at-requires-clause-room c =
-    next_fits _ (omega (arith, c.if-out-all.false, port_octets c.args.d.now)) c.put-at.ensures
+    let h = open_of c.args.d c.requires (not-false _ c.if-not-d.false) in
+    next_fits _ (omega (arith, c.if-out-all.false, c.plan_octets-all.ensures, port_octets c.args.d, h.slots_count)) c.put-at.ensures
 
 pub put_all-at-requires-2-clause-room : goal.put_all-at-requires-2-clause-room
 put_all-at-requires-2-clause-room c =
-    let d = c.args.d.now in
+    let d = c.args.d in
+    let h = open_of d c.requires (not-false _ c.if-not-d.false) in
     let front = with_row slot_field 11 slot_length (field_octets (port_field (port_in d))) (slots_in d) in
-    next_fits _ (omega (arith, c.if-out-all.false, front, port_octets d))
+    next_fits _ (omega (arith, c.if-out-all.false, c.plan_octets-all.ensures, front, port_octets d, h.slots_count, h.streams_count))
     (wrote_next c.put-at.ensures c.put_all-at.ensures)
 
 pub put_all-at-requires-2-clause-fit : goal.put_all-at-requires-2-clause-fit
-put_all-at-requires-2-clause-fit c = streams_fit c.args.d.now c.requires c.if-not-d.false
+put_all-at-requires-2-clause-fit c = streams_fit c.args.d c.requires (not-false _ c.if-not-d.false)
 
 pub returns : goal.returns
 returns c =
-    let h = open_of c.args.d.now c.requires c.if-not-d.false in
-    put_open c.args.d.now c.requires c.args.out.now c.if-not-d.false
-    (omega (arith, c.if-out-all.false, h.slots_count, h.streams_count)) _ _
+    let h = open_of c.args.d c.requires (not-false _ c.if-not-d.false) in
+    put_open c.args.d c.requires c.args.out.now (not-false _ c.if-not-d.false)
+    (omega (arith, c.if-out-all.false, c.plan_octets-all.ensures, h.slots_count, h.streams_count)) _ _
     (wrote_next (wrote_next c.put-at.ensures c.put_all-at.ensures) c.put_all-at-2.ensures)
