@@ -31,11 +31,8 @@ fn tell<T: Value>(rt: &impl Print, reply: Reply<T>) -> io::Result<Desk>
     ensures { IfOk result Fit }
 {
     match reply.answer {
-        Ok(value) => {
-            print!(rt; "0 ")?;
-            value.put(rt)?;
-        }
-        Err(why) => println!(rt; "{} {}", answers::number(why), carried(why))?,
+        Ok(value) => value.put(rt)?,
+        Err(why) => T::put_refusal(rt, answers::number(why), carried(why))?,
     }
     Ok(reply.desk)
 }
