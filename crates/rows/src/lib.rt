@@ -86,7 +86,9 @@ pub fn insert<T: Keyed>(row: &mut [T], n: usize, x: T)
     ensures { row.new ≡ filled (length row.old) T.free_place (insert_by T.key_of x (take n row.old)) }
 {
     let p = first_larger(&row[..n], x.key()).unwrap_or(n);
-    row[p..=n].rotate_right(1);
+    for i in (p..n).rev() {
+        row[i + 1] = row[i];
+    }
     row[p] = x;
 }
 
@@ -96,6 +98,8 @@ pub fn remove<T: Keyed>(row: &mut [T], n: usize, p: usize)
         × (row.old ≡ filled (length row.old) T.free_place (take n row.old)) }
     ensures { row.new ≡ filled (length row.old) T.free_place (without p (take n row.old)) }
 {
-    row[p..n].rotate_left(1);
+    for i in p..n - 1 {
+        row[i] = row[i + 1];
+    }
     row[n - 1] = T::free();
 }
