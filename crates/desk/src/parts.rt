@@ -11,8 +11,8 @@ use table::Stairs;
 
 // What the desk holds, without its stairs.
 // Stays: field by field, since the C interface has the desk flat.
-pub fn entries_of(d: Desk) -> Entries
-    ensures { result ≡ entries_in d }
+pub fn entries_of(d: &Desk) -> Entries
+    ensures { result ≡ entries_in d.now }
 {
     let slots = d.slots;
     let streams = d.streams;
@@ -93,11 +93,13 @@ pub fn with_stairs(e: Entries) -> Desk
 pub fn keep_stairs(d: Desk, made: Entries, answer: Result<(), Refusal>) -> Reply<()>
     ensures { result ≡ answered d (with_entries d made) answer }
 {
-    let desk = match answer {
-        Ok(_) => with_entries(d, made),
-        Err(_) => d,
-    };
-    Reply { answer, desk }
+    match answer {
+        Ok(_) => Reply {
+            answer,
+            desk: with_entries(d, made),
+        },
+        Err(_) => Reply { answer, desk: d },
+    }
 }
 
 // What the desk answers to an edit of its entries behind which the stairs are built.
@@ -106,9 +108,11 @@ pub fn build_stairs(d: Desk, made: Entries, answer: Result<(), Refusal>) -> Repl
     requires { FitEntries made × (answer ≡ Ok tt → made.opened ≡ true) }
     ensures { result ≡ answered d (desk_of (held_in made)) answer }
 {
-    let desk = match answer {
-        Ok(_) => with_stairs(made),
-        Err(_) => d,
-    };
-    Reply { answer, desk }
+    match answer {
+        Ok(_) => Reply {
+            answer,
+            desk: with_stairs(made),
+        },
+        Err(_) => Reply { answer, desk: d },
+    }
 }

@@ -36,7 +36,7 @@ pub fn open_port(d: Desk, p: PortNumbers) -> Reply<()>
     requires { Fit d }
     ensures { (result ≡ edit_reply (edited (held d) (open_port (port_of p) (held d)))) × Fit result.desk }
 {
-    let mut made = entries_of(d);
+    let mut made = entries_of(&d);
     let answer = made.hold_port(p);
     keep_stairs(d, made, answer)
 }

@@ -13,7 +13,7 @@ pub fn add_slot(d: Desk, start: u64, end: u64) -> Reply<()>
     requires { Fit d }
     ensures { (result ≡ edit_reply (edited (held d) (add_slot (slot_of start end) (held d)))) × Fit result.desk }
 {
-    let mut more = entries_of(d);
+    let mut more = entries_of(&d);
     let answer = more.hold_slot(start, end);
     build_stairs(d, more, answer)
 }
@@ -23,7 +23,7 @@ pub fn remove_slot(d: Desk, start: u64) -> Reply<()>
     requires { Fit d }
     ensures { (result ≡ edit_reply (edited (held d) (remove_slot start (held d)))) × Fit result.desk }
 {
-    let mut fewer = entries_of(d);
+    let mut fewer = entries_of(&d);
     let answer = fewer.drop_slot(start);
     build_stairs(d, fewer, answer)
 }

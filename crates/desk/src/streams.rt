@@ -14,7 +14,7 @@ pub fn add_stream(d: Desk, j: StreamNumbers) -> Reply<()>
     requires { Fit d }
     ensures { (result ≡ edit_reply (edited (held d) (add_stream (stream_of j) (held d)))) × Fit result.desk }
 {
-    let mut more = entries_of(d);
+    let mut more = entries_of(&d);
     let answer = more.hold_stream(j);
     keep_stairs(d, more, answer)
 }
@@ -24,7 +24,7 @@ pub fn remove_stream(d: Desk, id: u64) -> Reply<()>
     requires { Fit d }
     ensures { (result ≡ edit_reply (edited (held d) (remove_stream id (held d)))) × Fit result.desk }
 {
-    let mut fewer = entries_of(d);
+    let mut fewer = entries_of(&d);
     let answer = fewer.drop_stream(id);
     keep_stairs(d, fewer, answer)
 }

@@ -39,7 +39,7 @@ fn runs_of(d: &Desk) -> Result<RunRow, Refusal>
     ensures { result ≡ answer_by run_row (ask_runs (held d.now)) }
 {
     opened(d)?;
-    let e = desk::entries_of(*d);
+    let e = desk::entries_of(d);
     Ok(e.chain().find_runs())
 }
 
