@@ -13,7 +13,7 @@ use meaning::{Port, Refusal, Slot, Stream};
 use room::{AsField, put_all};
 
 // How many octets a plan of so many slots and streams takes.
-fn plan_octets(slots: usize, streams: usize) -> usize
+fn octets_for(slots: usize, streams: usize) -> usize
     requires { (slots ≤ 32) × (streams ≤ 64) }
     ensures { result ≡ 16 + 11 * slots + 20 * streams }
 {
@@ -29,7 +29,7 @@ fn put_plan(d: Desk, out: &mut [u8]) -> Result<usize, Refusal>
     if !d.opened {
         return Err(Refusal::OutOfTurn);
     }
-    let all = plan_octets(d.nslots, d.nstreams);
+    let all = octets_for(d.nslots, d.nstreams);
     if out.len() < all {
         return Err(Refusal::NoRoom);
     }
