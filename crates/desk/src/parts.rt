@@ -108,11 +108,9 @@ pub fn build_stairs(d: Desk, made: Entries, answer: Result<(), Refusal>) -> Repl
     requires { FitEntries made × (answer ≡ Ok tt → made.opened ≡ true) }
     ensures { result ≡ answered d (desk_of (held_in made)) answer }
 {
-    match answer {
-        Ok(_) => Reply {
-            answer,
-            desk: with_stairs(made),
-        },
-        Err(_) => Reply { answer, desk: d },
-    }
+    let desk = match answer {
+        Ok(_) => with_stairs(made),
+        Err(_) => d,
+    };
+    Reply { answer, desk }
 }
