@@ -15,7 +15,7 @@ ghost use Rattle.desk.specs.Desks.{held, Fit, far_in, tot_in};
 ghost use Rattle.questions.specs.Replies.{answer_by, runs_reply, stairs_reply, figure_reply};
 
 use desk::{Desk, Reply};
-use gate::RunRow;
+use gate::{RunRow, Slots};
 use meaning::Refusal;
 pub use responses::response;
 use search::HORIZON;
@@ -39,8 +39,11 @@ fn runs_of(d: &Desk) -> Result<RunRow, Refusal>
     ensures { result ≡ answer_by run_row (ask_runs (held d.now)) }
 {
     opened(d)?;
-    let e = desk::entries_of(d);
-    Ok(e.chain().find_runs())
+    let held = Slots {
+        gate: desk::entries_of(d).gate(),
+        slots: &d.slots[..d.nslots],
+    };
+    Ok(held.find_runs())
 }
 
 // The stairs that the desk stores.

@@ -4,6 +4,9 @@ use Rattle.meaning.specs.declared.Refusal.TheVariants.{OutOfTurn}
 use Rattle.meaning.specs.Runs.{runs}
 use Rattle.gate.specs.Rows.{run_row}
 use Rattle.entries.specs.Entries.{gate_in, slots_in}
+use Rattle.entries.proofs.Opened.{open_entries}
+use Rattle.entries.proofs.GateLaws.{held_fit}
+use Rattle.desk.specs.Edits.{entries_in}
 use Rattle.desk.proofs.Held.{fit_entries}
 use Rattle.questions.specs.Replies.{answer_by}
 use Rattle.questions.proofs.Asking.{handed_on, runs_closed, runs_open}
@@ -15,15 +18,21 @@ returns-in_err-opened c =
     handed_on _ _ _ OutOfTurn c.from_residual.ensures.1 why
     (ap (answer_by run_row) (runs_closed c.args.d.now shut))
 
-pub chain-requires : goal.chain-requires
-chain-requires c =
+pub shared_ref_as_front-held : goal.shared_ref_as_front-held
+shared_ref_as_front-held c = (open_entries _ (fit_entries c.args.d.now c.requires) c.in_ok-opened.ensures).slots_few
+
+pub invariant_of-held : goal.invariant_of-held
+invariant_of-held c =
     let d = c.args.d.now in
-    rw c.entries_of-e.ensures (fit_entries d c.requires, c.in_ok-opened.ensures)
+    let e = entries_in d in
+    record {
+      fits =
+          rw (c.gate.ensures ∙ ap gate_in c.entries_of.ensures)
+          (held_fit e (open_entries e (fit_entries d c.requires) c.in_ok-opened.ensures));
+    }
 
 pub returns : goal.returns
 returns c =
-    let e = c.entries_of-e.ensures in
-    let gate = c.chain.ensures.0 ∙ ap gate_in e in
-    let slots = c.chain.ensures.1 ∙ ap slots_in e in
+    let gate = c.gate.ensures ∙ ap gate_in c.entries_of.ensures in
     runs_open c.args.d.now c.requires c.in_ok-opened.ensures c.find_runs.result
-    (c.find_runs.ensures ∙ λ i. run_row (runs (gate i) (slots i)))
+    (c.find_runs.ensures ∙ λ i. run_row (runs (gate i) (slots_in (entries_in c.args.d.now))))
