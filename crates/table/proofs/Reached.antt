@@ -4,16 +4,18 @@ use mathlib.Core.Path.{◌≡◌, refl, sym, ap, ap₂, ◌∙◌}
 use mathlib.Core.Bool.{true, false}
 use mathlib.Core.Logic.{by_cases}
 use mathlib.Core.List.{List, [], ◌∷◌}
-use Prim.Native.Nat.{ℕ, zero, suc, ◌+◌, ◌-◌, ◌*◌, ◌/◌, ◌%◌, ◌≤◌, ◌<◌}
-use native.Mathlib.Decide.{ℕ_discrete}
+use Prim.Native.Nat.{ℕ, zero, suc, ◌+◌, ◌-◌, ◌*◌, ◌/◌, ◌%◌, ◌≤◌, ◌<◌, min}
+use native.Mathlib.Decide.{ℕ_discrete, dec_le}
 use native.Mathlib.Omega.{arith}
-use lib.ListN.{length, take, get_or, length-take}
+use lib.ListN.{length, take, drop, get_or, length-take, length-drop}
 use lib.Dec.{leb}
 use borrow.Author.Tests.{leb-true, leb-false, le-leb, lt-leb}
-use Rattle.std.specs.List.{slice_get}
+use Rattle.std.specs.List.{slice_get, AllWithin}
+use Rattle.std.specs.Simd.{first_chunks}
+use Rattle.std.specs.Int.{from_bool}
 use Rattle.std.specs.Option.{unwrap_or}
 use Rattle.std.specs.List.Sorted.{IsPartitionedBy, IsPartitionPoint}
-use Rattle.std.proofs.lemmas.List.{get_or-take, length-take-le}
+use Rattle.std.proofs.lemmas.List.{get_or_default, get_or-drop, get_or-take, length-take-le}
 use Rattle.std.proofs.lemmas.List.Sorted.{IsPartitionedBy-leb, IsNonDecreasingBy-from_default}
 use Rattle.std.proofs.lemmas.Option.{unwrap_or-slice_get}
 use Rattle.meaning.specs.Interference.{last_total, by_stairs}
@@ -28,14 +30,125 @@ all_last [] = refl
 all_last (z ∷ tot) =
     unwrap_or-slice_get (z ∷ tot) (length (z ∷ tot) - 1) 0 ∙ ap (λ (i : ℕ). get_or (z ∷ tot) i 0) (omega arith)
 
--- where the distances rise, those that u reaches come first
-pub reached_first : (far : List ℕ) (u : ℕ) → RisesTo far (length far) → IsPartitionedBy (λ d. leb d u) far
-reached_first far u rises =
-    IsPartitionedBy-leb (λ d. d) far u
-    (IsNonDecreasingBy-from_default (λ d. d) far 0 (λ i j h l.
+-- distances that rise do not fall
+grow : (far : List ℕ) → RisesTo far (length far) → (i j : ℕ) → i ≤ j → j < length far → get_or far i 0 ≤ get_or far j 0
+grow far rises i j h l =
     by_cases (ℕ_discrete i j)
     (λ e. omega (arith, ap (λ (k : ℕ). get_or far k 0) e))
-    (λ e. omega (arith, rises i j (omega arith) l))))
+    (λ e. omega (arith, rises i j (omega arith) l))
+
+-- of the first k distances u reaches the first n and no other
+abbrev pub CountedTo : List ℕ → ℕ → ℕ → ℕ → Type 0
+CountedTo far u k n =
+    (n ≤ k) × AllWithin (λ d. leb d u ≡ true) far 0 n × AllWithin (λ d. leb d u ≡ false) far n k
+
+-- one distance more, behind b: where u reaches it, it reached all before it
+pub counted_next : (far : List ℕ) (u b k n x y : ℕ) → RisesTo far (length far) → b + k < length far
+    → CountedTo far u (b + k) (b + n) → y ≡ get_or far (b + k) 0 → x ≡ from_bool (leb y u)
+    → CountedTo far u (b + (k + 1)) (b + (n + x))
+counted_next far u b k n x y rises l (h, below, above) ey ex =
+    by_cases (dec_le y u)
+    (λ yes.
+    let one : x ≡ 1 = ex ∙ ap from_bool (le-leb y u yes) in
+    let all : n ≡ k =
+    by_cases (dec_le k n) (λ m. omega arith)
+    (λ m. absurd (omega (
+      arith,
+      leb-false (get_or far (b + n) 0) u (above (b + n) 0 (omega arith) (omega arith)),
+      rises (b + n) (b + k) (omega arith) l,
+      ey,
+    ))) in (
+      omega arith,
+      λ i d g m. by_cases (dec_le (b + n) i)
+          (λ o. le-leb (get_or far i d) u (omega (arith, here i d (omega arith))))
+          (λ o. below i d g (omega arith)),
+      λ i d g m. absurd (omega arith),
+    ))
+    (λ no.
+    let none : x ≡ 0 = ex ∙ ap from_bool (lt-leb y u (omega arith)) in (
+      omega arith,
+      λ i d g m. below i d g (omega arith),
+      λ i d g m. by_cases (dec_le (b + k) i)
+          (λ o. lt-leb (get_or far i d) u (omega (arith, here i d (omega arith))))
+          (λ o. above i d (omega arith) (omega arith)),
+    ))
+  where
+    here : (i d : ℕ) → i ≡ b + k → get_or far i d ≡ y
+    here i d q = get_or_default far i d 0 (omega arith) ∙ ap (λ (j : ℕ). get_or far j 0) q ∙ sym ey
+
+-- up to 64 of the distances behind b
+module _ (far : List ℕ) (b m : ℕ) (e : m ≡ min (length (take (length far - b) (drop b far))) 64) where
+  pub lot_long : m ≡ min (length far - b) 64
+  lot_long = omega (arith, e, length-take (length far - b) (drop b far), length-drop b far)
+
+  pub lot_has : length (take m (take (length far - b) (drop b far))) ≡ m
+  lot_has =
+      omega (arith, e, length-take m (take (length far - b) (drop b far)))
+
+  pub lot_at : (i : ℕ) → i < m → get_or (take m (take (length far - b) (drop b far))) i 0 ≡ get_or far (b + i) 0
+  lot_at i h =
+      get_or-take m (take (length far - b) (drop b far)) i 0 h
+      ∙ get_or-take (length far - b) (drop b far) i 0 (omega (arith, lot_long))
+      ∙ get_or-drop b far i 0
+
+-- the last distance of a lot of 64
+lot_last : (c : ℕ) (xs : List ℕ) (k : ℕ) → k < c
+    → get_or (get_or (first_chunks 64 c xs) k []) 63 0 ≡ get_or xs (64 * k + 63) 0
+lot_last zero xs k h = absurd (omega arith)
+lot_last (suc c) xs zero h = get_or-take 64 xs 63 0 (omega arith)
+lot_last (suc c) xs (suc k) h =
+    lot_last c (drop 64 xs) k (omega arith) ∙ get_or-drop 64 xs (64 * k + 63) 0
+    ∙ ap (λ (i : ℕ). get_or xs i 0) (omega arith)
+
+-- distances that rise, in lots of 64
+module _ (far : List ℕ) (u : ℕ) (rises : RisesTo far (length far)) (lots : List (List ℕ))
+    (cut : lots ≡ first_chunks 64 (length far / 64) far) (many : length lots ≡ length far / 64) where
+  last_at : (k : ℕ) → k < length lots → get_or (get_or lots k []) 63 0 ≡ get_or far (64 * k + 63) 0
+  last_at k h = rw cut (lot_last (length far / 64) far k (omega (arith, many)))
+
+  -- the lots of which u reaches the last distance come first
+  pub reached_first : IsPartitionedBy (λ lot. leb (get_or lot 63 0) u) lots
+  reached_first =
+      IsPartitionedBy-leb (λ lot. get_or lot 63 0) lots u
+      (IsNonDecreasingBy-from_default (λ lot. get_or lot 63 0) lots [] (λ i j h l. omega (
+        arith,
+        last_at i (omega arith),
+        last_at j l,
+        grow far rises (64 * i + 63) (64 * j + 63) (omega arith) (omega (arith, many)),
+      )))
+
+  module _ (q : ℕ) (some : q ≤ length lots)
+      (point : IsPartitionPoint (λ lot. leb (get_or lot 63 0) u ≡ true) (λ lot. leb (get_or lot 63 0) u ≡ false) lots q) where
+    -- u reaches all distances of those
+    pub lots_counted : CountedTo far u (64 * q + 0) (64 * q + 0)
+    lots_counted = (
+      omega arith,
+      λ i d g m. le-leb (get_or far i d) u (omega (
+        arith,
+        many,
+        get_or_default far i d 0 (omega (arith, many)),
+        leb-true (get_or (get_or lots (q - 1) []) 63 0) u (point.0 (q - 1) [] (omega arith) (omega arith)),
+        last_at (q - 1) (omega arith),
+        grow far rises i (64 * (q - 1) + 63) (omega arith) (omega (arith, many)),
+      )),
+      λ i d g m. absurd (omega arith),
+    )
+
+    -- and behind the next lot none
+    pub lots_point : (n m : ℕ) → m ≡ min (length far - 64 * q) 64 → CountedTo far u (64 * q + m) (64 * q + n)
+        → IsPartitionPoint (λ d. leb d u ≡ true) (λ d. leb d u ≡ false) far (64 * q + n)
+    lots_point n m e (h, below, above) = (
+      below,
+      λ i d g l. by_cases (dec_le (64 * q + m) i)
+          (λ o. lt-leb (get_or far i d) u (omega (
+            arith,
+            get_or_default far i d 0 l,
+            leb-false (get_or (get_or lots q []) 63 0) u (point.1 q [] (omega arith) (omega (arith, many))),
+            last_at q (omega (arith, many)),
+            grow far rises (64 * q + 63) i (omega arith) l,
+          )))
+          (λ o. above i d g (omega arith)),
+    )
 
 -- behind z, the totals of the stairs: the last one reached stands where as many are reached
 last_behind : (z : ℕ) (far tot : List ℕ) (u i : ℕ) → length tot ≡ length far → i ≤ length far

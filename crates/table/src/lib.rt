@@ -1,7 +1,8 @@
 // The interference table (document 01, "Interference"): stairs stored as rows, and V read from them.
 #![tactic(auto)]
 
-ghost use Rattle.std.specs.Prelude.{◌≡◌, length};
+ghost use Rattle.std.specs.Prelude.{◌≡◌, ◌≤◌, true, false, leb, length};
+ghost use Rattle.std.specs.List.Sorted.{IsPartitionPoint};
 ghost use Rattle.table.specs.Lookup.{all_in, stairs_v, StairsFit};
 
 // How many stairs there are, their distances and their totals. The places left are 0.
@@ -37,12 +38,27 @@ impl<'a> Stairs<'a> {
         all_blocked(self.tot)
     }
 
+    // How many stairs u reaches: a search by halves among lots of 64, and a count in the lot behind those reached. No
+    // branch of the count hangs on u, and a branch that is guessed wrongly costs more than several distances.
+    fn reached(&self, u: u32) -> usize
+        ensures bound { result ≤ length self.now.far.now }
+        ensures partitioned { IsPartitionPoint (λ d. leb d u ≡ true) (λ d. leb d u ≡ false) self.now.far.now result }
+    {
+        let (lots, _) = self.far.as_chunks::<64>();
+        let before = 64 * lots.partition_point(|lot| lot[63] <= u);
+        let rest = &self.far[before..];
+        let mut n: u32 = 0;
+        for d in &rest[..rest.len().min(64)] {
+            n += u32::from(*d <= u);
+        }
+        before + n as usize
+    }
+
     // V(t): the whole cycles in t times all blocked cells, plus the total of the last stair that the remainder reaches.
     pub fn interference(&self, t: u32) -> u64
         ensures { result ≡ stairs_v self.now.cycle self.now.far.now self.now.tot.now t }
     {
-        let u = t % self.cycle;
-        let reached = self.far.partition_point(|d| *d <= u);
+        let reached = self.reached(t % self.cycle);
         let rest = u64::from(all_blocked(&self.tot[..reached]));
         u64::from(t / self.cycle) * u64::from(self.all_blocked()) + rest
     }
