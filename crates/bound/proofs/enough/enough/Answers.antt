@@ -8,6 +8,8 @@ use Rattle.search.specs.Searches.{table_of, asked_of}
 use Rattle.search.proofs.Searching.{tried_busy}
 use Rattle.bound.proofs.enough.enough.Goals as goal
 
+-- What is counted is of the rows lent, so the window that closes is one of theirs,
+-- with the jitter that they have.
 pub returns-then-need-from : goal.returns-then-need-from
 returns-then-need-from c =
     let d = c.args.calm.now in
