@@ -1,5 +1,5 @@
-// The rest of a call's line: the number of its answer, and what that carries. An edit and a figure are told in one write,
-// rows in one for the number and then a line at a time, also where there are none.
+// The rest of a call's line: the number of its answer, and what that carries. An edit and a figure are told in one
+// write, rows in one for the number and then a line at a time, also where there are none.
 use gate::RunRow;
 use std::io;
 use table::Table;

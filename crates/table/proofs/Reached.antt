@@ -118,7 +118,8 @@ module _ (far : List ℕ) (u : ℕ) (rises : RisesTo far (length far)) (lots : L
       )))
 
   module _ (q : ℕ) (some : q ≤ length lots)
-      (point : IsPartitionPoint (λ lot. leb (get_or lot 63 0) u ≡ true) (λ lot. leb (get_or lot 63 0) u ≡ false) lots q) where
+      (point : IsPartitionPoint (λ lot. leb (get_or lot 63 0) u ≡ true) (λ lot. leb (get_or lot 63 0) u ≡ false)
+      lots q) where
     -- u reaches all distances of those
     pub lots_counted : CountedTo far u (64 * q + 0) (64 * q + 0)
     lots_counted = (

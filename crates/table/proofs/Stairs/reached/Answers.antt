@@ -19,7 +19,8 @@ point : (c : After-min)
 point c =
     let s = c.args.self.now in
     let cut = c.as_chunks.ensures in
-    IsPartitionPoint-from_clause (λ lot. leb (get_or lot 63 0) c.args.u) _ _ c.partition_point-before.ensures.partitioned
+    IsPartitionPoint-from_clause (λ lot. leb (get_or lot 63 0) c.args.u) _ _
+    c.partition_point-before.ensures.partitioned
     (reached_first s.far.now c.args.u s.fits.far_rises c.as_chunks.result.0.now cut.front cut.front_len)
     (λ a r q k. search rules)
 
