@@ -33,15 +33,16 @@ fn opened(d: &Desk) -> Result<(), Refusal>
     }
 }
 
-// The blocked runs of the slots held.
-fn runs_of(d: &Desk) -> Result<RunRow, Refusal>
-    requires { Fit d.now }
-    ensures { result ≡ answer_by run_row (ask_runs (held d.now)) }
+// The blocked runs of the slots held. Of the desk the row of slots alone is copied to be lent.
+fn runs_of(d: Desk) -> Result<RunRow, Refusal>
+    requires { Fit d }
+    ensures { result ≡ answer_by run_row (ask_runs (held d)) }
 {
-    opened(d)?;
+    opened(&d)?;
+    let row = d.slots;
     let held = Slots {
-        gate: desk::entries_of(d).gate(),
-        slots: &d.slots[..d.nslots],
+        gate: desk::entries_of(&d).gate(),
+        slots: &row[..d.nslots],
     };
     Ok(held.find_runs())
 }
@@ -87,7 +88,7 @@ pub fn runs(d: Desk) -> Reply<RunRow>
     requires { Fit d }
     ensures { (result ≡ runs_reply (asked (held d) (ask_runs (held d)))) × Fit result.desk }
 {
-    let answer = runs_of(&d);
+    let answer = runs_of(d);
     Reply { answer, desk: d }
 }
 

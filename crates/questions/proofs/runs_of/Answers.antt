@@ -1,5 +1,6 @@
 -- `questions::runs_of` meets its contract: the runs are those of the slots that a fit open desk holds.
 use mathlib.Core.Path.{ap, ◌∙◌}
+use native.Mathlib.Omega.{arith}
 use Rattle.meaning.specs.declared.Refusal.TheVariants.{OutOfTurn}
 use Rattle.meaning.specs.Runs.{runs}
 use Rattle.gate.specs.Rows.{run_row}
@@ -16,14 +17,21 @@ pub returns-in_err-opened : goal.returns-in_err-opened
 returns-in_err-opened c =
     let (why, shut) = c.in_err-opened.ensures in
     handed_on _ _ _ OutOfTurn c.from_residual.ensures.1 why
-    (ap (answer_by run_row) (runs_closed c.args.d.now shut))
+    (ap (answer_by run_row) (runs_closed c.args.d shut))
 
-pub shared_ref_as_front-held : goal.shared_ref_as_front-held
-shared_ref_as_front-held c = (open_entries _ (fit_entries c.args.d.now c.requires) c.in_ok-opened.ensures).slots_few
+pub slice_bounds-row-end : goal.slice_bounds-row-end
+slice_bounds-row-end c =
+    let h = open_entries _ (fit_entries c.args.d c.requires) c.in_ok-opened.ensures in
+    omega (arith, h.slots_few)
+
+pub slice_bounds-held-end : goal.slice_bounds-held-end
+slice_bounds-held-end c =
+    let h = open_entries _ (fit_entries c.args.d c.requires) c.in_ok-opened.ensures in
+    omega (arith, h.slots_count)
 
 pub invariant_of-held : goal.invariant_of-held
 invariant_of-held c =
-    let d = c.args.d.now in
+    let d = c.args.d in
     let e = entries_in d in
     record {
       fits =
@@ -34,5 +42,5 @@ invariant_of-held c =
 pub returns : goal.returns
 returns c =
     let gate = c.gate.ensures ∙ ap gate_in c.entries_of.ensures in
-    runs_open c.args.d.now c.requires c.in_ok-opened.ensures c.find_runs.result
-    (c.find_runs.ensures ∙ λ i. run_row (runs (gate i) (slots_in (entries_in c.args.d.now))))
+    runs_open c.args.d c.requires c.in_ok-opened.ensures c.find_runs.result
+    (c.find_runs.ensures ∙ λ i. run_row (runs (gate i) (slots_in (entries_in c.args.d))))
