@@ -1,9 +1,9 @@
 // How many frames of a busy window need computing.
-ghost use Rattle.std.specs.Prelude.{◌≤◌};
+ghost use Rattle.std.specs.Prelude.{◌≤◌, replicate};
 ghost use Rattle.search.specs.Searches.{table_of, asked_of};
 ghost use Rattle.bound.specs.Answers.{EnoughOf};
 
-use arrivals::{frames_in, frames_wire};
+use arrivals::{Rows, frames_in, frames_wire};
 use search::{Demand, HORIZON, Own};
 
 // How many frames are enough, of all that the busy window has from the last that can come at 0 on. Where the window
@@ -31,4 +31,23 @@ pub fn enough(calm: &Demand, own: &Own, all: u32) -> u32
         w = need as u32;
     }
     all
+}
+
+// The same beside the rows of demand without their jitter.
+pub fn enough_calm(demand: &Demand, own: &Own, all: u32) -> u32
+    ensures { EnoughOf (table_of demand.now.stairs) demand.now.rows.now.per (replicate 64 0) demand.now.rows.now.cost
+        demand.now.rows.now.n (asked_of own.now) all result × (result ≤ all) }
+{
+    let jit = [0; 64];
+    let rows = Rows {
+        n: demand.rows.n,
+        per: demand.rows.per,
+        jit,
+        cost: demand.rows.cost,
+    };
+    let calm = Demand {
+        rows: &rows,
+        stairs: demand.stairs,
+    };
+    enough(&calm, own, all)
 }

@@ -11,7 +11,7 @@ mod enough;
 
 use ahead::{unpack, wire_of};
 use arrivals::Rows;
-use enough::enough;
+use enough::enough_calm;
 use frames::worst;
 use meaning::Stream;
 use search::{Demand, HORIZON, Own};
@@ -34,18 +34,7 @@ pub fn rows_bound(rows: &Rows, stairs: &Stairs, own: &Own) -> Option<u32>
     };
     let b = demand.window(own)?;
     let all = own.frames_in(b) + 1 - own.frames_in(0);
-    let jit = [0; 64];
-    let calm_rows = Rows {
-        n: rows.n,
-        per: rows.per,
-        jit,
-        cost: rows.cost,
-    };
-    let calm = Demand {
-        rows: &calm_rows,
-        stairs: *stairs,
-    };
-    let few = enough(&calm, own, all);
+    let few = enough_calm(&demand, own, all);
     Some(worst(&demand, own, few))
 }
 

@@ -3,7 +3,7 @@
 use Rattle.std.proofs.Common.{◌≡◌, ℕ, ◌+◌, ◌-◌, replicate, ap₂, arith}
 use Rattle.search.specs.Searches.{table_of, asked_of, asked_stream}
 use Rattle.meaning.proofs.Arrivals.{counted, most_grows}
-use Rattle.bound.proofs.Bounding.{zeros_in, calm_fits, endless_first, endless_window, beside_in, bound_within}
+use Rattle.bound.proofs.Bounding.{zeros_in, endless_first, endless_window, beside_in, bound_within}
 use Rattle.bound.proofs.rows_bound.Goals as goal
 
 pub returns-then-interference-gt-HORIZON : goal.returns-then-interference-gt-HORIZON
@@ -22,11 +22,6 @@ invariant_of-demand c =
             grows = c.requires.v_grows;
           };
     }
-
-pub invariant_of-calm_rows : goal.invariant_of-calm_rows
-invariant_of-calm_rows c =
-    let r = c.args.rows.now in
-    record { fit = calm_fits r.per r.jit r.cost (replicate 64 0) r.n r.fit (zeros_in r.n r.fit.few) }
 
 pub returns-in_err-b : goal.returns-in_err-b
 returns-in_err-b c =
@@ -54,15 +49,15 @@ worst-requires c =
     let own = c.args.own.now in
     let w = c.in_ok-b.ensures in
     beside_in (table_of c.args.stairs.now) (asked_of own) r.per r.jit r.cost r.n c.in_ok-b.b w.0 w.1 own.fits
-    (c.frames_in.result + 1 - c.frames_in-2.result) c.enough-few.result
-    (counts_apart _ _ _ _ c.frames_in.ensures.0 c.frames_in-2.ensures.0) c.enough-few.ensures.1 c.requires.beside
+    (c.frames_in.result + 1 - c.frames_in-2.result) c.enough_calm-few.result
+    (counts_apart _ _ _ _ c.frames_in.ensures.0 c.frames_in-2.ensures.0) c.enough_calm-few.ensures.1 c.requires.beside
 
 pub returns : goal.returns
 returns c =
     let r = c.args.rows.now in
     let own = c.args.own.now in
     let w = c.in_ok-b.ensures in
-    let e = c.enough-few in
+    let e = c.enough_calm-few in
     bound_within (table_of c.args.stairs.now) (asked_of own) r.per r.jit r.cost r.n c.in_ok-b.b w.0 w.1 own.fits
     (c.frames_in.result + 1 - c.frames_in-2.result) e.result
     (counts_apart _ _ _ _ c.frames_in.ensures.0 c.frames_in-2.ensures.0) e.ensures.1 c.requires.v_spreads
